@@ -1,0 +1,4 @@
+-- laws on bits and lists
+pub mod Digits
+pub mod Bits
+pub mod Walk

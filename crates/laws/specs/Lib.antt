@@ -1,0 +1,3 @@
+-- bits of numbers, and lists
+pub mod Bits
+pub mod Lists

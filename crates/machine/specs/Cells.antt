@@ -1,0 +1,69 @@
+-- Document 01, 'One pulse', The cells: a search from top bit to bottom, an add from bottom to top.
+-- Assumes nothing.
+use Prim.Native.Nat.{ℕ, zero, suc, _+_, _/_, _%_}
+use mathlib.Core.Bool.{Bool, true, false, _&&_}
+use Rattle.laws.specs.Bits.{bit}
+use Rattle.laws.specs.Lists.{all}
+use Rattle.machine.specs.declared.Panel.{Panel}
+use Rattle.machine.specs.declared.Code.{Code}
+use Rattle.machine.specs.declared.Code.the-variants.{DontCare, Exact, Larger, Smaller}
+use Rattle.machine.specs.declared.Status.{Status}
+use Rattle.machine.specs.declared.Status.the-variants.{Equal, For, Against}
+use Rattle.machine.specs.Machine.{Syllable, syllables, selected}
+use Rattle.machine.specs.Search.{codeAt, eachCode}
+
+-- One cell: its code, the word's bit, COMP's bit, the status from above.
+-- "A settled status stays." "A don't-care bit passes it on. Exact: a difference settles against. Larger: word 1 with COMP 0 settles for, word 0
+-- with COMP 1 against; smaller is the mirror."
+abbrev pub cell : Code → ℕ → ℕ → Status → Status
+cell d w c For = For
+cell d w c Against = Against
+cell DontCare w c Equal = Equal
+cell Exact zero zero Equal = Equal
+cell Exact zero (suc c) Equal = Against
+cell Exact (suc w) zero Equal = Against
+cell Exact (suc w) (suc c) Equal = Equal
+cell Larger zero zero Equal = Equal
+cell Larger zero (suc c) Equal = Against
+cell Larger (suc w) zero Equal = For
+cell Larger (suc w) (suc c) Equal = Equal
+cell Smaller zero zero Equal = Equal
+cell Smaller zero (suc c) Equal = For
+cell Smaller (suc w) zero Equal = Against
+cell Smaller (suc w) (suc c) Equal = Equal
+
+-- "From top bit to bottom a syllable passes on one of three statuses: equal so far, settled for, settled against."
+unfoldable pub passed : (ℕ → Status → Status) → ℕ → Status → Status
+passed f zero t = t
+passed f (suc j) t = passed f j (f j t)
+
+-- "It starts equal."
+abbrev pub statusOf : Panel → ℕ → Syllable → Status
+statusOf p w y = passed (λ j. cell (codeAt p (y .low + j)) (bit w (y .low + j)) (bit (p .comp) (y .low + j))) (y .width) Equal
+
+-- "Exact wants "equal" at the bottom, larger and smaller want "settled for"."
+abbrev pub wants : Code → Status → Bool
+wants DontCare t = true
+wants Exact Equal = true
+wants Exact For = false
+wants Exact Against = false
+wants Larger Equal = false
+wants Larger For = true
+wants Larger Against = false
+wants Smaller Equal = false
+wants Smaller For = true
+wants Smaller Against = false
+
+unfoldable pub accepted : Panel → ℕ → Syllable → Bool
+accepted p w y = eachCode p y (λ d. wants d (statusOf p w y))
+
+unfoldable pub cellsMatch : ℕ → Panel → ℕ → ℕ → Bool
+cellsMatch n p w r = selected (p .key) (p .care) r && all (accepted p w) (syllables n (p .sdr))
+
+-- "Add goes bottom up: carry 0 in, each cell keeps the sum's low bit and passes its carry on."
+unfoldable pub carry : (ℕ → ℕ) → (ℕ → ℕ) → ℕ → ℕ
+carry w a zero = 0
+carry w a (suc j) = (w j + a j + carry w a j) / 2
+
+abbrev pub sumBit : (ℕ → ℕ) → (ℕ → ℕ) → ℕ → ℕ
+sumBit w a j = (w j + a j + carry w a j) % 2

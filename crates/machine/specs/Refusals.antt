@@ -1,0 +1,149 @@
+-- Document 01, 'Numbers given when a call is turned down': 1 to 7, and what a pulse answers and leaves.
+-- Assumes nothing.
+use Prim.Native.Nat.{ℕ, zero, suc, _+_, _^_}
+use mathlib.Core.Bool.{Bool, true, false, not, _&&_, _||_}
+use mathlib.Core.List.{List, [], _∷_}
+use lib.Dec.{ltb, leb, eqb}
+use lib.ListN.{length}
+use Rattle.laws.specs.Bits.{pick, digit}
+use Rattle.laws.specs.Lists.{all}
+use Rattle.machine.specs.declared.Panel.{Panel}
+use Rattle.machine.specs.declared.Lines.{Lines}
+use Rattle.machine.specs.declared.Found.{Found}
+use Rattle.machine.specs.declared.Found.the-variants.{At, Nothing}
+use Rattle.machine.specs.declared.Refusal.{Refusal}
+use Rattle.machine.specs.declared.Refusal.the-variants.{Size, Width, WordTooWide, PanelTooWide, TwoCodes, WrongLines, NoSuchWord, Unfit, Malformed, NoRoom, NotShown}
+use Rattle.machine.specs.declared.Check.{Check}
+use Rattle.machine.specs.declared.Check.the-variants as check
+use Rattle.machine.specs.declared.Answer.{Answer}
+use Rattle.machine.specs.declared.Answer.the-variants as answer
+use Rattle.machine.specs.Machine.{Machine, syllables}
+use Rattle.machine.specs.Search.{oneCode}
+use Rattle.machine.specs.Pulse.{countOf, readOf, pulsed}
+use Rattle.machine.specs.Resolution.{lowest}
+
+-- ---- the table's conditions
+
+-- 1: "n is 0 or above 1,024, or the response buffer isn't n long"
+unfoldable pub badSize : ℕ → ℕ → Bool
+badSize n responses = eqb n 0 || (ltb 1024 n || not (eqb responses n))
+
+-- 2: "N not 1 to 64"
+unfoldable pub badWidth : ℕ → Bool
+badWidth n = eqb n 0 || ltb 64 n
+
+-- 3: "a word has a one at or above bit N"
+abbrev pub tooWide : ℕ → ℕ → Bool
+tooWide n x = leb (2 ^ n) x
+
+-- 4: "a panel register has such a one"
+unfoldable pub badPanel : ℕ → Panel → Bool
+badPanel n p = tooWide n (p .comp) || tooWide n (p .sdr) || tooWide n (p .sc1) || tooWide n (p .sc2) || tooWide n (p .mor)
+
+-- 5: "search raised, a syllable with two codes"
+unfoldable pub badCodes : ℕ → Panel → Lines → Bool
+badCodes n p l = l .search && not (all (oneCode p) (syllables n (p .sdr)))
+
+-- 6: "no line, three or more, or complement with another"
+abbrev pub raised : Lines → ℕ
+raised l =
+    digit (l .search) + digit (l .read) + digit (l .write) + digit (l .add) + digit (l .multiwrite) + digit (l .multiadd) + digit (l .complement)
+
+unfoldable pub badLines : Lines → Bool
+badLines l = eqb (raised l) 0 || ltb 2 (raised l) || l .complement && not (eqb (raised l) 1)
+
+-- 7: "read, write or add raised, address n or more"
+unfoldable pub badAddress : ℕ → Panel → Lines → Bool
+badAddress n p l = (l .read || l .write || l .add) && leb n (p .address .0)
+
+-- ---- "Checked in number order; given exactly then."
+
+infixr 20 _else_
+-- the first check, and where it passes the second
+abbrev pub _else_ : Check → Check → Check
+check.Passed else c = c
+check.Refused r else c = check.Refused r
+
+abbrev pub refuse : Refusal → Bool → Check
+refuse r true = check.Refused r
+refuse r false = check.Passed
+
+-- 3 also answers the "lowest such word"
+abbrev pub refuseWord : Found → Check
+refuseWord (At k) = check.Refused (WordTooWide k)
+refuseWord Nothing = check.Passed
+
+-- "resolution for 1 to 3", and every other call first
+unfoldable pub machineCheck : Machine → Check
+machineCheck m =
+    refuse Size (badSize (length (m .words)) (length (m .responses)))
+    else refuse Width (badWidth (m .width))
+    else refuseWord (lowest (tooWide (m .width)) 0 (m .words))
+
+-- 6 and 7
+abbrev pub commandCheck : ℕ → Panel → Lines → Check
+commandCheck n p l = refuse WrongLines (badLines l) else refuse NoSuchWord (badAddress n p l)
+
+-- "A pulse is checked for 1 to 7"
+unfoldable pub pulseCheck : Machine → Panel → Lines → Check
+pulseCheck m p l =
+    machineCheck m
+    else refuse PanelTooWide (badPanel (m .width) p)
+    else refuse TwoCodes (badCodes (m .width) p l)
+    else commandCheck (length (m .words)) p l
+
+-- ---- what a pulse answers, and what stands in the machine afterwards
+
+abbrev pub answerBy : Check → Answer → Answer
+answerBy check.Passed a = a
+answerBy (check.Refused r) a = answer.Refused r
+
+unfoldable pub answerOf : Machine → Panel → Lines → Answer
+answerOf m p l = answerBy (pulseCheck m p l) (answer.Done (countOf m p l) (readOf m p l))
+
+-- "Nothing lent changes"
+abbrev pub changeBy : Check → Machine → Machine → Machine
+changeBy check.Passed new old = new
+changeBy (check.Refused r) new old = old
+
+unfoldable pub after : Machine → Panel → Lines → Machine
+after m p l = changeBy (pulseCheck m p l) (pulsed m p l) m
+
+-- ---- each answer's number and values; "other answer fields are 0"
+
+abbrev pub numberOf : Refusal → ℕ
+numberOf Size = 1
+numberOf Width = 2
+numberOf (WordTooWide k) = 3
+numberOf PanelTooWide = 4
+numberOf TwoCodes = 5
+numberOf WrongLines = 6
+numberOf NoSuchWord = 7
+numberOf Unfit = 8
+numberOf (Malformed place) = 9
+numberOf NoRoom = 10
+numberOf NotShown = 11
+
+abbrev pub alsoAnswers : Refusal → ℕ
+alsoAnswers Size = 0
+alsoAnswers Width = 0
+alsoAnswers (WordTooWide k) = k .0
+alsoAnswers PanelTooWide = 0
+alsoAnswers TwoCodes = 0
+alsoAnswers WrongLines = 0
+alsoAnswers NoSuchWord = 0
+alsoAnswers Unfit = 0
+alsoAnswers (Malformed place) = place
+alsoAnswers NoRoom = 0
+alsoAnswers NotShown = 0
+
+-- the refusal's number, 0 for none, and what it also answers; the count and the word read
+pub record Told : Type 0 where
+  pub refusal : ℕ
+  pub also : ℕ
+  pub count : ℕ
+  pub read : ℕ
+
+abbrev pub told : Answer → Told
+told (answer.Done c w) = record { refusal = 0; also = 0; count = c; read = w }
+told (answer.Refused r) = record { refusal = numberOf r; also = alsoAnswers r; count = 0; read = 0 }

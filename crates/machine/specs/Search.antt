@@ -1,0 +1,76 @@
+-- Document 01, 'One pulse', Search: by the numbers that word and COMP make over each syllable.
+-- Assumes nothing.
+use Prim.Native.Nat.{ℕ, zero, suc, _+_}
+use mathlib.Core.Bool.{Bool, true, false, _&&_, _||_}
+use lib.Dec.{ltb, eqb}
+use Rattle.laws.specs.Bits.{bit, number, every, digit, under}
+use Rattle.laws.specs.Lists.{all}
+use Rattle.machine.specs.declared.Panel.{Panel}
+use Rattle.machine.specs.declared.Code.{Code}
+use Rattle.machine.specs.declared.Code.the-variants.{DontCare, Exact, Larger, Smaller}
+use Rattle.machine.specs.Machine.{responseBits, Syllable, syllables, over, selected}
+
+-- "Each bit has a code (SC1, SC2): 00 don't care, 01 exact, 10 larger, 11 smaller (house)."
+abbrev pub code : ℕ → ℕ → Code
+code zero zero = DontCare
+code zero (suc b) = Exact
+code (suc a) zero = Larger
+code (suc a) (suc b) = Smaller
+
+abbrev pub codeAt : Panel → ℕ → Code
+codeAt p i = code (bit (p .sc1) i) (bit (p .sc2) i)
+
+-- a test holds of the code of each bit of a syllable
+abbrev pub eachCode : Panel → Syllable → (Code → Bool) → Bool
+eachCode p y test = every (y .width) (λ j. test (codeAt p (y .low + j)))
+
+-- "In one syllable all bits other than don't-care ones carry one code."
+abbrev pub orExact : Code → Bool
+orExact DontCare = true
+orExact Exact = true
+orExact Larger = false
+orExact Smaller = false
+
+abbrev pub orLarger : Code → Bool
+orLarger DontCare = true
+orLarger Exact = false
+orLarger Larger = true
+orLarger Smaller = false
+
+abbrev pub orSmaller : Code → Bool
+orSmaller DontCare = true
+orSmaller Exact = false
+orSmaller Larger = false
+orSmaller Smaller = true
+
+unfoldable pub oneCode : Panel → Syllable → Bool
+oneCode p y = eachCode p y orExact || (eachCode p y orLarger || eachCode p y orSmaller)
+
+-- "Read word and COMP over that syllable with don't-care bits taken as 0 .."
+abbrev pub cared : Code → ℕ → ℕ
+cared DontCare b = 0
+cared Exact b = b
+cared Larger b = b
+cared Smaller b = b
+
+abbrev pub readOver : Panel → Syllable → ℕ → ℕ
+readOver p y x = over y (λ i. cared (codeAt p i) (bit x i))
+
+-- ".. the word's number must be equal to, larger than or smaller than COMP's."
+abbrev pub asks : Code → ℕ → ℕ → Bool
+asks DontCare w c = true
+asks Exact w c = eqb w c
+asks Larger w c = ltb c w
+asks Smaller w c = ltb w c
+
+-- "A syllable of don't-cares is satisfied."
+unfoldable pub satisfied : Panel → ℕ → Syllable → Bool
+satisfied p w y = eachCode p y (λ d. asks d (readOver p y w) (readOver p y (p .comp)))
+
+-- "A word **matches** if it is selected and all its syllables are satisfied."
+unfoldable pub matches : ℕ → Panel → ℕ → ℕ → Bool
+matches n p w r = selected (p .key) (p .care) r && all (satisfied p w) (syllables n (p .sdr))
+
+-- "Each target bit becomes 1 in matching words and 0 in all others."
+unfoldable pub marked : ℕ → Bool → ℕ → ℕ
+marked target m r = number responseBits (under target (λ i. digit m) (bit r))

@@ -1,0 +1,266 @@
+// The machine's types, its panel's loads, and the checks that calls share.
+// Document 01: 'The machine', 'One pulse', 'Numbers given when a call is turned down'.
+ghost use mathlib.Core.Path.{_≡_};
+ghost use Prim.Native.Nat.{_≤_};
+ghost use Rattle.laws.specs.Bits.{digit};
+ghost use Rattle.machine.specs.Panel.{load, COMP, SDR, SC1, SC2, MOR, KEY, CARE, TARGET, ADDRESS};
+ghost use Rattle.machine.specs.Machine.{machine};
+ghost use Rattle.machine.specs.Resolution.{lowest};
+ghost use Rattle.machine.specs.Refusals.{badSize, badWidth, tooWide, badPanel, badLines, badAddress, refuseWord, machineCheck, commandCheck};
+
+// A word's response bits, and how many they are: named once.
+pub type Response = u8;
+
+pub const RESPONSE_BITS: u32 = 8;
+
+// "Bit-slices and word-slices are numbered apart, and neither number stands for the other."
+pub struct WordSlice(pub usize);
+
+pub struct BitSlice(pub u32);
+
+// "The panel holds five N-bit registers .., three 8-bit ones .. and an address."
+pub struct Panel {
+    pub comp: u64,
+    pub sdr: u64,
+    pub sc1: u64,
+    pub sc2: u64,
+    pub mor: u64,
+    pub key: Response,
+    pub care: Response,
+    pub target: Response,
+    pub address: WordSlice,
+}
+
+// "Loading one register of the panel changes that register and no other."
+impl Panel {
+    pub fn load_comp(mut self, value: u64) -> Panel
+        ensures { λ r. ⌜ r ≡ load COMP value self ⌝ }
+    {
+        self.comp = value;
+        self
+    }
+
+    pub fn load_sdr(mut self, value: u64) -> Panel
+        ensures { λ r. ⌜ r ≡ load SDR value self ⌝ }
+    {
+        self.sdr = value;
+        self
+    }
+
+    pub fn load_sc1(mut self, value: u64) -> Panel
+        ensures { λ r. ⌜ r ≡ load SC1 value self ⌝ }
+    {
+        self.sc1 = value;
+        self
+    }
+
+    pub fn load_sc2(mut self, value: u64) -> Panel
+        ensures { λ r. ⌜ r ≡ load SC2 value self ⌝ }
+    {
+        self.sc2 = value;
+        self
+    }
+
+    pub fn load_mor(mut self, value: u64) -> Panel
+        ensures { λ r. ⌜ r ≡ load MOR value self ⌝ }
+    {
+        self.mor = value;
+        self
+    }
+
+    pub fn load_key(mut self, value: Response) -> Panel
+        ensures { λ r. ⌜ r ≡ load KEY value self ⌝ }
+    {
+        self.key = value;
+        self
+    }
+
+    pub fn load_care(mut self, value: Response) -> Panel
+        ensures { λ r. ⌜ r ≡ load CARE value self ⌝ }
+    {
+        self.care = value;
+        self
+    }
+
+    pub fn load_target(mut self, value: Response) -> Panel
+        ensures { λ r. ⌜ r ≡ load TARGET value self ⌝ }
+    {
+        self.target = value;
+        self
+    }
+
+    pub fn load_address(mut self, value: WordSlice) -> Panel
+        ensures { λ r. ⌜ r ≡ load ADDRESS (value .0) self ⌝ }
+    {
+        self.address = value;
+        self
+    }
+}
+
+// "Seven lines: search, read, write, add (the last three at the address), multiwrite, multiadd, complement."
+pub struct Lines {
+    pub search: bool,
+    pub read: bool,
+    pub write: bool,
+    pub add: bool,
+    pub multiwrite: bool,
+    pub multiadd: bool,
+    pub complement: bool,
+}
+
+// The code of a bit in a search.
+pub enum Code {
+    DontCare,
+    Exact,
+    Larger,
+    Smaller,
+}
+
+// What a syllable's cells pass on from top bit to bottom.
+pub enum Status {
+    Equal,
+    For,
+    Against,
+}
+
+// A word, or none.
+pub enum Found {
+    At(WordSlice),
+    Nothing,
+}
+
+// Why a call is turned down; the definition numberOf gives document 01's number of each.
+pub enum Refusal {
+    Size,
+    Width,
+    WordTooWide(WordSlice),
+    PanelTooWide,
+    TwoCodes,
+    WrongLines,
+    NoSuchWord,
+    Unfit,
+    Malformed(usize),
+    NoRoom,
+    NotShown,
+}
+
+// What checking a call finds.
+pub enum Check {
+    Passed,
+    Refused(Refusal),
+}
+
+// What a pulse answers: the count and the word read, or the refusal.
+pub enum Answer {
+    Done { count: usize, read: u64 },
+    Refused(Refusal),
+}
+
+// ---- the checks that calls share, in the table's order
+
+pub fn bad_size(words: usize, responses: usize) -> bool
+    ensures { λ r. ⌜ r ≡ badSize words responses ⌝ }
+{
+    (words == 0) | ((1024 < words) | !(responses == words))
+}
+
+pub fn bad_width(width: u32) -> bool
+    ensures { λ r. ⌜ r ≡ badWidth width ⌝ }
+{
+    (width == 0) | (64 < width)
+}
+
+// Any width: a number of 64 bits has no one at or above bit 64.
+pub fn too_wide(width: u32, x: u64) -> bool
+    ensures { λ r. ⌜ r ≡ tooWide width x ⌝ }
+{
+    if width < 64 {
+        let above = x >> width;
+        0 < above
+    } else {
+        false
+    }
+}
+
+pub fn first_too_wide(width: u32, words: &[u64]) -> Found
+    ensures { λ r. ⌜ r ≡ lowest (tooWide width) 0 (now (words .entry)) ⌝ }
+{
+    let mut i: usize = 0;
+    while i < words.len() {
+        if too_wide(width, words[i]) {
+            return Found::At(WordSlice(i));
+        }
+        i += 1;
+    }
+    Found::Nothing
+}
+
+pub fn refuse_word(found: Found) -> Check
+    ensures { λ r. ⌜ r ≡ refuseWord found ⌝ }
+{
+    match found {
+        Found::At(k) => Check::Refused(Refusal::WordTooWide(k)),
+        Found::Nothing => Check::Passed,
+    }
+}
+
+// 1 to 3: what every call that is lent a machine is checked for first.
+pub fn check_machine(words: &[u64], responses: &[Response], width: u32) -> Check
+    ensures { λ r. ⌜ r ≡ machineCheck (machine width (now (words .entry)) (now (responses .entry))) ⌝ }
+{
+    if bad_size(words.len(), responses.len()) {
+        return Check::Refused(Refusal::Size);
+    }
+    if bad_width(width) {
+        return Check::Refused(Refusal::Width);
+    }
+    refuse_word(first_too_wide(width, words))
+}
+
+pub fn bad_panel(width: u32, panel: Panel) -> bool
+    ensures { λ r. ⌜ r ≡ badPanel width panel ⌝ }
+{
+    too_wide(width, panel.comp)
+        | too_wide(width, panel.sdr)
+        | too_wide(width, panel.sc1)
+        | too_wide(width, panel.sc2)
+        | too_wide(width, panel.mor)
+}
+
+fn digit_of(raised: bool) -> u32
+    ensures { λ r. ⌜ (r ≡ digit raised) × (r ≤ 1) ⌝ }
+{
+    if raised { 1 } else { 0 }
+}
+
+pub fn bad_lines(lines: Lines) -> bool
+    ensures { λ r. ⌜ r ≡ badLines lines ⌝ }
+{
+    let raised = digit_of(lines.search)
+        + digit_of(lines.read)
+        + digit_of(lines.write)
+        + digit_of(lines.add)
+        + digit_of(lines.multiwrite)
+        + digit_of(lines.multiadd)
+        + digit_of(lines.complement);
+    (raised == 0) | (2 < raised) | (lines.complement & !(raised == 1))
+}
+
+pub fn bad_address(words: usize, panel: Panel, lines: Lines) -> bool
+    ensures { λ r. ⌜ r ≡ badAddress words panel lines ⌝ }
+{
+    (lines.read | lines.write | lines.add) & (words <= panel.address.0)
+}
+
+// 6 and 7.
+pub fn check_command(words: usize, panel: Panel, lines: Lines) -> Check
+    ensures { λ r. ⌜ r ≡ commandCheck words panel lines ⌝ }
+{
+    if bad_lines(lines) {
+        return Check::Refused(Refusal::WrongLines);
+    }
+    if bad_address(words, panel, lines) {
+        return Check::Refused(Refusal::NoSuchWord);
+    }
+    Check::Passed
+}

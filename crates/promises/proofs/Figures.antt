@@ -1,0 +1,106 @@
+-- Document 01, 'Figures to check by': the cases marked P, as rows of one table under one statement.
+-- "N=8, words 35 9C 35 (hex), responses 0, SDR 88, all else 0 unless said."
+-- Assumes nothing.
+use Prim.Native.Nat.{ℕ, zero, suc, _-_, _^_}
+use mathlib.Core.Path.{_≡_, refl}
+use mathlib.Core.List.{List, [], _∷_, map}
+use mathlib.Core.Bool.{Bool, true, false}
+use Rattle.laws.specs.Bits.{number, every}
+use Rattle.laws.specs.Lists.{all, zip, count}
+use Rattle.machine.specs.declared.Panel.{Panel}
+use Rattle.machine.specs.declared.Lines.{Lines}
+use Rattle.machine.specs.Machine.{Machine, bottom, tops, selected}
+use Rattle.machine.specs.Search.{oneCode, satisfied, matches, marked}
+use Rattle.machine.specs.Pulse.{written, sums, added, wordAfter, flipped, responseAfter, counts, countOf, readOf, pulsed}
+use Rattle.machine.specs.Resolution.{lowest}
+use Rattle.machine.specs.Refusals.{badSize, badWidth, badPanel, badCodes, badLines, badAddress, machineCheck, pulseCheck, answerOf, after, Told, told}
+
+-- ---- the form of a row
+
+-- what can be seen afterwards: how many pulses it took, what was answered, the words and the responses
+pub record Shown : Type 0 where
+  pub pulses : ℕ
+  pub told : Told
+  pub words : List ℕ
+  pub responses : List ℕ
+
+-- a figure's number, what the definitions give, and what document 01 states
+pub record Row : Type 0 where
+  pub figure : ℕ
+  pub given : Shown
+  pub stated : Shown
+
+abbrev counted : ℕ → Told
+counted c = record { refusal = 0; also = 0; count = c; read = 0 }
+
+abbrev onePulse : Machine → Panel → Lines → Shown
+onePulse m p l =
+    record { pulses = 1; told = told (answerOf m p l); words = after m p l .words; responses = after m p l .responses }
+
+-- ---- the commands
+
+-- COMP, SDR, SC1, SC2, MOR, target
+abbrev panel : ℕ → ℕ → ℕ → ℕ → ℕ → ℕ → Panel
+panel c s a b m t =
+    record { comp = c; sdr = s; sc1 = a; sc2 = b; mor = m; key = 0; care = 0; target = t; address = record { 0 = 0 } }
+
+-- search, write, add, multiwrite, multiadd
+abbrev lines : Bool → Bool → Bool → Bool → Bool → Lines
+lines s w a mw ma =
+    record { search = s; read = false; write = w; add = a; multiwrite = mw; multiadd = ma; complement = false }
+
+abbrev search : Lines
+search = lines true false false false false
+
+abbrev write-and-add : Lines
+write-and-add = lines false true true false false
+
+abbrev multiwrite : Lines
+multiwrite = lines false false false true false
+
+abbrev multiadd : Lines
+multiadd = lines false false false false true
+
+-- ---- the rows
+
+abbrev three : List ℕ
+three = 0x35 ∷ 0x9C ∷ 0x35 ∷ []
+
+-- a search of the three words: the count and the responses afterwards
+abbrev searched : ℕ → Panel → ℕ → List ℕ → Row
+searched figure p c rs =
+    record {
+      figure = figure;
+      given = onePulse (record { width = 8; words = three; responses = 0 ∷ 0 ∷ 0 ∷ [] }) p search;
+      stated = record { pulses = 1; told = counted c; words = three; responses = rs };
+    }
+
+-- one word, of this width: what it becomes
+abbrev becomes : ℕ → ℕ → Panel → Lines → ℕ → ℕ → Row
+becomes figure n p l w w′ =
+    record {
+      figure = figure;
+      given = onePulse (record { width = n; words = w ∷ []; responses = 0 ∷ [] }) p l;
+      stated = record { pulses = 1; told = counted 1; words = w′ ∷ []; responses = 0 ∷ [] };
+    }
+
+abbrev pub table : List Row
+table =
+    searched 1 (panel 0x34 0x88 0x0F 0xF0 0 1) 2 (1 ∷ 0 ∷ 1 ∷ [])
+    ∷ searched 2 (panel 0x35 0x88 0x0F 0xF0 0 1) 0 (0 ∷ 0 ∷ 0 ∷ [])
+    ∷ searched 3 (panel 0x34 0x88 0x0C 0xF0 0 1) 0 (0 ∷ 0 ∷ 0 ∷ [])
+    ∷ becomes 4 8 (panel 0x0C 0x88 0 0 0xFF 0) multiadd 0x35 0x31
+    ∷ becomes 4 8 (panel 0x0C 0x80 0 0 0xFF 0) multiadd 0x35 0x41
+    ∷ becomes 4 8 (panel 0x0C 0xFF 0 0 0xFF 0) multiadd 0x35 0x39
+    ∷ becomes 5 8 (panel 0xAA 0x88 0 0 0x0F 0) multiwrite 0x9C 0x9A
+    ∷ becomes 6 8 (panel 0b110010 0x88 0 0 0b110010 0) multiwrite 0b000101 0b110111
+    ∷ becomes 6 8 (panel 0b110010 0x88 0 0 0b001101 0) multiwrite 0b111111 0b110010
+    ∷ becomes 7 8 (panel 0x0C 0x88 0 0 0x0F 0) write-and-add 0x35 0x3D
+    ∷ becomes 8 64 (panel 1 0 0 0 (2 ^ 64 - 1) 0) multiadd (2 ^ 64 - 1) 0
+    ∷ []
+
+-- ---- the statement: what the definitions give is what document 01 states, in every row
+
+pub figures : map (λ (r : Row). r .given) table ≡ map (λ (r : Row). r .stated) table
+unfolding number every all zip count bottom tops selected oneCode satisfied matches marked written sums added wordAfter flipped responseAfter counts countOf readOf pulsed lowest badSize badWidth badPanel badCodes badLines badAddress machineCheck pulseCheck answerOf after
+figures = refl

@@ -1,0 +1,2 @@
+-- what is promised
+pub mod Figures
