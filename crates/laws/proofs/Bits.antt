@@ -9,7 +9,7 @@ use native.Mathlib.Numerals.{one-add}
 use native.Mathlib.Omega.{arith}
 use lib.Dec.{eqb}
 use borrow.Author.Tests.{eq-eqb, ne-eqb}
-use lib.Pow.{pow-pos, mod-pow-add, low, high, shr-shr}
+use lib.Pow.{pow-pos, mod-pow-add, low, shr-shr}
 use lib.Bits.{bitAnd, bitOr, bitXor, differ, and-shr, or-shr, xor-shr}
 use Rattle.laws.specs.Bits.{bit, number, every}
 use Rattle.laws.proofs.Digits as d

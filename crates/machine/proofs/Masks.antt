@@ -1,13 +1,13 @@
 -- What the definitions that go bit by bit are as masks of whole numbers: selection, marks, flips, writes and the addend.
 -- Assumes nothing.
-use Prim.Native.Nat.{ℕ, zero, suc, _-_, _^_, _<_, min, max}
-use mathlib.Core.Path.{_≡_, refl, sym, ap, ap₂, _∙_}
-use mathlib.Core.Bool.{Bool, true, false, _&&_, _||_}
+use Prim.Native.Nat.{ℕ, _-_, _^_, _<_, min, max}
+use mathlib.Core.Path.{_≡_, refl, sym, ap₂, _∙_}
+use mathlib.Core.Bool.{Bool, true, false, _||_}
 use native.Mathlib.Nat.{mod-eq-of-lt}
 use native.Mathlib.Omega.{arith}
 use lib.Dec.{eqb}
 use lib.Bits.{bitAnd, bitOr, bitXor, differ, and-le-l, and-le-r, or-lt, xor-lt}
-use Rattle.laws.specs.Bits.{bit, number, every, pick, digit, under}
+use Rattle.laws.specs.Bits.{bit, pick}
 use Rattle.laws.proofs.Digits.{Bit, off, on}
 use Rattle.laws.proofs.Bits.{digit-at, number-fits, every-like, every-eqb, and-bit, or-bit, xor-bit, not-bit}
 use Rattle.machine.specs.declared.Panel.{Panel}

@@ -1,15 +1,14 @@
 -- The cells' statuses agree with the numbers wherever each syllable has one code.
 -- Assumes nothing.
-use Prim.Native.Nat.{ℕ, zero, suc, _+_, _*_, _^_, _≤_, _<_}
+use Prim.Native.Nat.{ℕ, zero, suc, _+_, _*_, _^_, _<_}
 use mathlib.Core.Path.{_≡_, refl, sym, ap, ap₂, _∙_}
 use mathlib.Core.Bool.{Bool, true, false, _&&_, _||_}
 use mathlib.Core.List.{List, [], _∷_}
 use mathlib.Core.Logic.{_⊎_, inl, inr, ⊎-elim}
 use native.Mathlib.Omega.{arith}
-use lib.Dec.{ltb, eqb}
-use lib.Pow.{pow-pos}
+use lib.Dec.{ltb}
 use borrow.Author.Tests.{lt-ltb, le-ltb, eq-eqb, ne-eqb}
-use Rattle.laws.specs.Bits.{bit, number, every, pick}
+use Rattle.laws.specs.Bits.{bit, number}
 use Rattle.laws.specs.Lists.{all}
 use Rattle.laws.proofs.Digits.{Bit, off, on, bit-lt, tri}
 use Rattle.laws.proofs.Bits.{digit-at, number-lt, every-like, every-at, and-left, and-right}
@@ -20,7 +19,7 @@ use Rattle.machine.specs.declared.Status.{Status}
 use Rattle.machine.specs.declared.Status.the-variants.{Equal, For, Against}
 use Rattle.machine.specs.Machine.{Syllable, syllables, selected}
 use Rattle.machine.specs.Search.{codeAt, eachCode, orExact, orLarger, orSmaller, oneCode, cared, readOver, asks, satisfied, matches}
-use Rattle.machine.specs.Cells.{cell, passed, statusOf, wants, accepted, cellsMatch}
+use Rattle.machine.specs.Cells.{cell, passed, wants, accepted, cellsMatch}
 
 -- ---- two numbers compared, as a status
 

@@ -1,7 +1,7 @@
 -- Document 01, 'One pulse', Resolution.
 -- Assumes nothing.
 use Prim.Native.Nat.{ℕ, suc}
-use mathlib.Core.Bool.{Bool, true, false}
+use mathlib.Core.Bool.{Bool}
 use mathlib.Core.List.{List, [], _∷_}
 use Rattle.laws.specs.Bits.{pick}
 use Rattle.machine.specs.declared.Found.{Found}

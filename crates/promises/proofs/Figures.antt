@@ -1,7 +1,7 @@
 -- Document 01, 'Figures to check by': the cases marked P, as rows of one table under one statement.
 -- "N=8, words 35 9C 35 (hex), responses 0, SDR 88, all else 0 unless said."
 -- Assumes nothing.
-use Prim.Native.Nat.{ℕ, zero, suc, _-_, _^_}
+use Prim.Native.Nat.{ℕ, _-_, _^_}
 use mathlib.Core.Path.{_≡_, refl}
 use mathlib.Core.List.{List, [], _∷_, map}
 use mathlib.Core.Bool.{Bool, true, false}

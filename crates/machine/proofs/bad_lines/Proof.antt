@@ -1,11 +1,7 @@
-use mathlib.Core.Path.{refl}
 use Rattle.machine.specs.Refusals.{badLines}
 use borrow.Author.Needs.{needs}
 use Rattle.machine.proofs.bad_lines.Statement.{statement}
 use Rattle.machine.proofs.bad_lines.Tie as tie
-use Rattle.machine.proofs.bad_lines.Reads as reads
-use Rattle.machine.proofs.bad_lines.Lts as lts
-use Rattle.machine.proofs.digit_of.Reads as digit-of-reads
 
 digit-of-requires : tie.Need-digit-of-requires
 digit-of-requires c κs = search needs

@@ -1,11 +1,7 @@
-use mathlib.Core.Path.{refl}
 use Rattle.machine.specs.Refusals.{badPanel}
 use borrow.Author.Needs.{needs}
 use Rattle.machine.proofs.bad_panel.Statement.{statement}
 use Rattle.machine.proofs.bad_panel.Tie as tie
-use Rattle.machine.proofs.bad_panel.Reads as reads
-use Rattle.machine.proofs.bad_panel.Lts as lts
-use Rattle.machine.proofs.too_wide.Reads as too-wide-reads
 
 too-wide-requires : tie.Need-too-wide-requires
 too-wide-requires c κs = search needs

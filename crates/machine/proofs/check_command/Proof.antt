@@ -4,10 +4,6 @@ use Rattle.machine.proofs.Checks.{refused, onward, last, none}
 use borrow.Author.Needs.{needs}
 use Rattle.machine.proofs.check_command.Statement.{statement}
 use Rattle.machine.proofs.check_command.Tie as tie
-use Rattle.machine.proofs.check_command.Reads as reads
-use Rattle.machine.proofs.check_command.Lts as lts
-use Rattle.machine.proofs.bad_address.Reads as bad-address-reads
-use Rattle.machine.proofs.bad_lines.Reads as bad-lines-reads
 
 bad-lines-requires : tie.Need-bad-lines-requires
 bad-lines-requires c κs = search needs

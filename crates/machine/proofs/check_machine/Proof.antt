@@ -5,12 +5,6 @@ use Rattle.machine.proofs.Checks.{refused, onward}
 use borrow.Author.Needs.{needs}
 use Rattle.machine.proofs.check_machine.Statement.{statement}
 use Rattle.machine.proofs.check_machine.Tie as tie
-use Rattle.machine.proofs.check_machine.Reads as reads
-use Rattle.machine.proofs.check_machine.Lts as lts
-use Rattle.machine.proofs.bad_size.Reads as bad-size-reads
-use Rattle.machine.proofs.bad_width.Reads as bad-width-reads
-use Rattle.machine.proofs.first_too_wide.Reads as first-too-wide-reads
-use Rattle.machine.proofs.refuse_word.Reads as refuse-word-reads
 
 bad-size-requires : tie.Need-bad-size-requires
 bad-size-requires c κs = search needs

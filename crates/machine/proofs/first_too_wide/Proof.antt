@@ -7,9 +7,6 @@ use Rattle.machine.specs.Refusals.{tooWide}
 use Rattle.machine.proofs.Checks.{lowest-here, lowest-later, lowest-end}
 use Rattle.machine.proofs.first_too_wide.Statement.{statement}
 use Rattle.machine.proofs.first_too_wide.Tie as tie
-use Rattle.machine.proofs.first_too_wide.Reads as reads
-use Rattle.machine.proofs.first_too_wide.Lts as lts
-use Rattle.machine.proofs.too_wide.Reads as too-wide-reads
 
 abbrev Inv-loop : tie.InvT-loop
 Inv-loop width words i₀ i = (i ≤ length words) × (lowest (tooWide width) i (drop i words) ≡ lowest (tooWide width) 0 words)

@@ -3,22 +3,16 @@ use Rattle.machine.specs.Refusals.{refuseWord}
 use borrow.Author.Needs.{needs}
 use Rattle.machine.proofs.refuse_word.Statement.{statement}
 use Rattle.machine.proofs.refuse_word.Tie as tie
-use Rattle.machine.proofs.refuse_word.Reads as reads
-use Rattle.machine.proofs.refuse_word.Lts as lts
 
--- src/lib.rt:195:19
 enum-known-found : tie.Need-enum-known-found
 enum-known-found c = search needs
 
--- src/lib.rt:196:27
 enum-told : tie.Need-enum-told
 enum-told c = search needs
 
--- src/lib.rt:191:1
 returns : tie.Need-returns
 returns c = ap refuseWord (sym (c .before .found .given .1))
 
--- src/lib.rt:191:1
 returns-2 : tie.Need-returns-2
 returns-2 c = search needs
 

@@ -2,18 +2,13 @@ use borrow.Author.Needs.{needs}
 use Rattle.machine.proofs.Checks.{above, never}
 use Rattle.machine.proofs.too_wide.Statement.{statement}
 use Rattle.machine.proofs.too_wide.Tie as tie
-use Rattle.machine.proofs.too_wide.Reads as reads
-use Rattle.machine.proofs.too_wide.Lts as lts
 
--- src/lib.rt:171:21
 shr-above : tie.Need-shr-above
 shr-above c = search needs
 
--- src/lib.rt:167:1
 returns : tie.Need-returns
 returns c = above (c .before .args .width) (c .before .args .x)
 
--- src/lib.rt:167:1
 returns-2 : tie.Need-returns-2
 returns-2 c = never (c .before .args .width) (c .before .args .x) (search needs) (c .before .fits .x .fits)
 

@@ -1,0 +1,2 @@
+-- names for the steps of the plain machine's loops
+pub mod Walks
