@@ -9,7 +9,7 @@ use native.Mathlib.Numerals.{one-add}
 use native.Mathlib.Omega.{arith}
 use lib.Dec.{eqb}
 use borrow.Author.Tests.{eq-eqb, ne-eqb}
-use lib.Pow.{pow-pos, mod-pow-add, low, shr-shr}
+use lib.Pow.{pow-pos, low, high, mod-pow-add, shr-shr}
 use lib.Bits.{bitAnd, bitOr, bitXor, differ, and-shr, or-shr, xor-shr}
 use Rattle.laws.specs.Bits.{bit, number, every}
 use Rattle.laws.proofs.Digits as d
@@ -136,3 +136,14 @@ every-eqb (suc k) x y =
     ap (λ (t : Bool). eqb (bit x k) (bit y k) && t) (every-eqb k x y)
     ∙ sym (top-split k (bit x k) (bit y k) (x % 2 ^ k) (y % 2 ^ k) (digit-at x k) (digit-at y k) (mod-lt x (pow-pos k)) (mod-lt y (pow-pos k)))
     ∙ sym (ap₂ eqb (top-bit k x) (top-bit k y))
+
+-- each bit of a number of digits is its digit
+pub number-bit : (k : ℕ) (f : ℕ → ℕ) → ((j : ℕ) → j < k → f j < 2) → (i : ℕ) → i < k → bit (number k f) i ≡ f i
+unfolding number
+number-bit zero f h i g = absurd (omega arith)
+number-bit (suc k) f h i g =
+    let small = number-lt k f (λ j l. h j (omega arith)) in
+    ⊎-elim
+    (λ l. sym (low-bit k (f k * 2 ^ k + number k f) i l) ∙ ap (λ (x : ℕ). bit x i) (low (f k) k small) ∙ number-bit k f (λ j q. h j (omega arith)) i l)
+    (⊎-elim (λ e. rw e (ap (λ (x : ℕ). x % 2) (high (f k) k small) ∙ mod-eq-of-lt (h k (omega arith)))) (λ l. absurd (omega arith)))
+    (d.tri i k)

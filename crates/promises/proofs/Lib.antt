@@ -1,2 +1,4 @@
--- what is promised
+-- what is promised: a reader opens these files
+pub mod Demand1
+pub mod Demand2
 pub mod Figures

@@ -1,0 +1,62 @@
+-- Demand 2: "Every pulse does to every word what 01 lays down. Search marks exactly the matching words."
+-- Assumes nothing.
+use Prim.Native.Nat.{ℕ, _<_}
+use mathlib.Core.Path.{_≡_}
+use mathlib.Core.Bool.{Bool, true, false}
+use native.Mathlib.Omega.{arith}
+use lib.Dec.{eqb}
+use lib.ListN.{length, getD}
+use Rattle.laws.specs.Bits.{bit, pick, digit}
+use Rattle.laws.proofs.Digits.{bit-lt}
+use Rattle.laws.proofs.Bits.{digit-at, number-bit}
+use Rattle.laws.specs.Lists.{all}
+use Rattle.laws.proofs.Lists.{at-zip}
+use Rattle.machine.specs.declared.Panel.{Panel}
+use Rattle.machine.specs.declared.Lines.{Lines}
+use Rattle.machine.specs.declared.Check.the-variants.{Passed}
+use Rattle.machine.specs.Machine.{Machine, responseBits, syllables}
+use Rattle.machine.specs.Search.{oneCode, matches, marked}
+use Rattle.machine.specs.Cells.{cellsMatch}
+use Rattle.machine.specs.Pulse.{wordAfter, responseAfter, pulsed}
+use Rattle.machine.specs.Refusals.{pulseCheck, after}
+use Rattle.machine.proofs.Checks as checks
+use Rattle.machine.proofs.Statuses.{cells-match}
+
+marked-digit : (t : ℕ) (b : Bool) {r : ℕ} → r < 2 → pick (eqb t 1) (digit b) r < 2
+marked-digit t b h = go (eqb t 1) b h
+  where
+    go : (u b : Bool) {r : ℕ} → r < 2 → pick u (digit b) r < 2
+    go true true h = omega arith
+    go true false h = omega arith
+    go false b h = h
+
+module _ (m : Machine) (p : Panel) (l : Lines) (accepted : pulseCheck m p l ≡ Passed) where
+  same-length : length (m .responses) ≡ length (m .words)
+  same-length = checks.size-same _ _ (checks.clean m p l accepted .sound .size)
+
+  -- each word after an accepted pulse is what wordAfter makes of it
+  pub word-after : (k : ℕ) → k < length (m .words)
+      → getD (after m p l .words) k 0 ≡ wordAfter (m .width) p l k (getD (m .words) k 0) (getD (m .responses) k 0)
+  unfolding after pulsed
+  word-after k h = rw accepted (at-zip (wordAfter (m .width) p l) (m .words) (m .responses) k same-length h)
+
+  -- and each response what responseAfter makes of it
+  pub response-after : (k : ℕ) → k < length (m .words)
+      → getD (after m p l .responses) k 0 ≡ responseAfter (m .width) p l k (getD (m .words) k 0) (getD (m .responses) k 0)
+  unfolding after pulsed
+  response-after k h = rw accepted (at-zip (responseAfter (m .width) p l) (m .words) (m .responses) k same-length h)
+
+  -- "Each target bit becomes 1 in matching words and 0 in all others": and no other response bit changes
+  pub search-marks : l .search ≡ true → (k i : ℕ) → k < length (m .words) → i < responseBits
+      → bit (getD (after m p l .responses) k 0) i
+      ≡ pick (eqb (bit (p .target) i) 1) (digit (matches (m .width) p (getD (m .words) k 0) (getD (m .responses) k 0))) (bit (getD (m .responses) k 0) i)
+  unfolding responseAfter marked
+  search-marks s k i h g =
+      rw (response-after k h, s)
+      (number-bit responseBits _ (λ j q. marked-digit (bit (p .target) j) (matches (m .width) p (getD (m .words) k 0) (getD (m .responses) k 0)) (bit-lt (digit-at (getD (m .responses) k 0) j))) i g)
+
+-- ---- the cells agree with the numbers, for every width
+
+-- "This is the plain machine; the word-wide one agrees with it": its cells match the words that the numbers match wherever 5 is not given
+pub cells-agree : (n : ℕ) (p : Panel) (w r : ℕ) → all (oneCode p) (syllables n (p .sdr)) ≡ true → cellsMatch n p w r ≡ matches n p w r
+cells-agree = cells-match
