@@ -16,7 +16,7 @@ pub const RESPONSE_BITS: u32 = 8;
 // "Bit-slices and word-slices are numbered apart, and neither number stands for the other."
 pub struct WordSlice(pub usize);
 
-pub struct BitSlice(pub u32);
+pub struct BitSlice(pub u8);
 
 // "The panel holds five N-bit registers .., three 8-bit ones .. and an address."
 pub struct Panel {

@@ -5,15 +5,26 @@ use Prim.Native.Nat.{ℕ, _-_, _^_}
 use mathlib.Core.Path.{_≡_, refl}
 use mathlib.Core.List.{List, [], _∷_, map}
 use mathlib.Core.Bool.{Bool, true, false}
-use Rattle.laws.specs.Bits.{number, every}
+use Rattle.laws.specs.Bits.{bit, number, every, under}
 use Rattle.laws.specs.Lists.{all, zip, count}
 use Rattle.machine.specs.declared.Panel.{Panel}
 use Rattle.machine.specs.declared.Lines.{Lines}
-use Rattle.machine.specs.Machine.{Machine, bottom, tops, selected}
+use Rattle.machine.specs.Machine.{Machine, responseBits, bottom, tops, selected}
 use Rattle.machine.specs.Search.{oneCode, satisfied, matches, marked}
 use Rattle.machine.specs.Pulse.{written, sums, added, wordAfter, flipped, responseAfter, counts, countOf, readOf, pulsed}
 use Rattle.machine.specs.Resolution.{lowest}
 use Rattle.machine.specs.Refusals.{badSize, badWidth, badPanel, badCodes, badLines, badAddress, machineCheck, pulseCheck, answerOf, after, Told, told}
+use Rattle.jobs.specs.declared.Span.{Span}
+use Rattle.jobs.specs.declared.Job.{Job}
+use Rattle.jobs.specs.declared.Held.{Held}
+use Rattle.jobs.specs.declared.Held.the-variants.{Nothing, Holds}
+use Rattle.jobs.specs.declared.Started.{Started}
+use Rattle.jobs.specs.declared.Started.the-variants as started
+use Rattle.jobs.specs.Fields.{badExtreme, badScaledAdd, badProduct, badUsed, unusedZero}
+use Rattle.jobs.specs.Places.{inTable, badHeld, first, next}
+use Rattle.jobs.specs.Commands.{command}
+use Rattle.jobs.specs.Calls.{startCheck, startOf, stepCheck, stepOf, afterStep}
+use Rattle.jobs.specs.Runs.{State, stepped, steps, stepsTaken}
 
 -- ---- the form of a row
 
@@ -32,6 +43,10 @@ pub record Row : Type 0 where
 
 abbrev counted : ℕ → Told
 counted c = record { refusal = 0; also = 0; count = c; read = 0 }
+
+abbrev heldBy : Started → Held
+heldBy (started.Holds o) = Holds o
+heldBy (started.Refused r) = Nothing
 
 abbrev onePulse : Machine → Panel → Lines → Shown
 onePulse m p l =
@@ -84,6 +99,38 @@ becomes figure n p l w w′ =
       stated = record { pulses = 1; told = counted 1; words = w′ ∷ []; responses = 0 ∷ [] };
     }
 
+-- ---- jobs: X 0, Y 1
+
+abbrev span : ℕ → ℕ → Span
+span low width = record { low = record { 0 = low }; width = width }
+
+abbrev none : Span
+none = span 0 0
+
+abbrev job : ℕ → ℕ → Span → Span → Span → ℕ → Job
+job kind criterion a b p c =
+    record { kind = kind; key = criterion; care = criterion; x = 0; y = 1; a = a; b = b; p = p; phase = 0; i = 0; j = 0; c = c }
+
+-- a response but for the working bit Y, of which document 01 states nothing
+abbrev butY : ℕ → ℕ
+butY r = number responseBits (under 0b10 (λ i. 0) (bit r))
+
+-- what stands once the job is over: more steps than any of these takes are allowed for
+abbrev ended : Machine → Job → Shown
+ended m o =
+    let s : State = record { machine = m; held = heldBy (startOf m Nothing o) } in
+    let k : ℕ = stepsTaken 20 s in
+    record { pulses = k; told = counted 0; words = steps k s .machine .words; responses = map butY (steps k s .machine .responses) }
+
+-- a job on these words, responses 0: its pulses, the words and the responses afterwards
+abbrev worked : ℕ → Job → List ℕ → ℕ → List ℕ → List ℕ → Row
+worked figure o ws k ws′ rs =
+    record {
+      figure = figure;
+      given = ended (record { width = 8; words = ws; responses = map (λ (w : ℕ). 0) ws }) o;
+      stated = record { pulses = k; told = counted 0; words = ws′; responses = rs };
+    }
+
 abbrev pub table : List Row
 table =
     searched 1 (panel 0x34 0x88 0x0F 0xF0 0 1) 2 (1 ∷ 0 ∷ 1 ∷ [])
@@ -97,10 +144,16 @@ table =
     ∷ becomes 6 8 (panel 0b110010 0x88 0 0 0b001101 0) multiwrite 0b111111 0b110010
     ∷ becomes 7 8 (panel 0x0C 0x88 0 0 0x0F 0) write-and-add 0x35 0x3D
     ∷ becomes 8 64 (panel 1 0 0 0 (2 ^ 64 - 1) 0) multiadd (2 ^ 64 - 1) 0
+    ∷ worked 9 (job 1 0 (span 0 4) none none 0) three 7 three (0 ∷ 1 ∷ 0 ∷ [])
+    ∷ worked 9 (job 2 0 (span 0 4) none none 0) three 7 three (1 ∷ 0 ∷ 1 ∷ [])
+    ∷ worked 9 (job 1 0x04 (span 0 4) none none 0) three 5 three (0 ∷ 0 ∷ 0 ∷ [])
+    ∷ worked 9 (job 2 0x04 (span 0 4) none none 0) three 5 three (0 ∷ 0 ∷ 0 ∷ [])
+    ∷ worked 10 (job 3 0 (span 0 4) none (span 4 4) 3) three 8 (0x25 ∷ 0xDC ∷ 0x25 ∷ []) (0 ∷ 0 ∷ 0 ∷ [])
+    ∷ worked 11 (job 4 0 (span 0 2) (span 2 2) (span 4 4) 0) (0x0B ∷ []) 8 (0x6B ∷ []) (0 ∷ [])
     ∷ []
 
 -- ---- the statement: what the definitions give is what document 01 states, in every row
 
 pub figures : map (λ (r : Row). r .given) table ≡ map (λ (r : Row). r .stated) table
-unfolding number every all zip count bottom tops selected oneCode satisfied matches marked written sums added wordAfter flipped responseAfter counts countOf readOf pulsed lowest badSize badWidth badPanel badCodes badLines badAddress machineCheck pulseCheck answerOf after
+unfolding number every all zip count bottom tops selected oneCode satisfied matches marked written sums added wordAfter flipped responseAfter counts countOf readOf pulsed lowest badSize badWidth badPanel badCodes badLines badAddress machineCheck pulseCheck answerOf after badExtreme badScaledAdd badProduct badUsed unusedZero inTable badHeld first next command startCheck startOf stepCheck stepOf afterStep stepped steps stepsTaken
 figures = refl

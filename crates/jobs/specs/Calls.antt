@@ -1,0 +1,76 @@
+-- Document 01, 'Jobs': what start, step and total answer, and the machine after a step.
+-- "job start, job step and show for 1 to 3 and 8"
+-- Assumes nothing.
+use Prim.Native.Nat.{ℕ, zero, suc, _+_, _*_, _-_, _/_, _%_, _^_, min, max}
+use mathlib.Core.Bool.{Bool, true, false, not, _&&_, _||_}
+use mathlib.Core.List.{List, [], _∷_}
+use lib.Dec.{eqb, ltb}
+use Rattle.laws.specs.Bits.{bit, number, pick}
+use Rattle.machine.specs.declared.Check.{Check}
+use Rattle.machine.specs.declared.Check.the-variants as check
+use Rattle.machine.specs.declared.Refusal.the-variants.{Unfit}
+use Rattle.machine.specs.Machine.{Machine, selected}
+use Rattle.machine.specs.Pulse.{countOf, pulsed}
+use Rattle.machine.specs.Refusals.{_else_, refuse, machineCheck}
+use Rattle.jobs.specs.declared.Span.{Span}
+use Rattle.jobs.specs.declared.Job.{Job}
+use Rattle.jobs.specs.declared.Held.{Held}
+use Rattle.jobs.specs.declared.Held.the-variants.{Nothing, Holds}
+use Rattle.jobs.specs.declared.Command.{Command}
+use Rattle.jobs.specs.declared.Started.{Started}
+use Rattle.jobs.specs.declared.Started.the-variants as started
+use Rattle.jobs.specs.declared.Stepped.{Stepped}
+use Rattle.jobs.specs.declared.Stepped.the-variants as stepped
+use Rattle.jobs.specs.Fields.{Kind, greatest, smallest, scaledAdd, product, unknown, kindOf, badUsed}
+use Rattle.jobs.specs.Places.{badHeld, first, next}
+use Rattle.jobs.specs.Commands.{command}
+
+-- ---- start
+
+abbrev pub isHeld : Held → Bool
+isHeld Nothing = false
+isHeld (Holds o) = true
+
+-- "a start while a job is held"; a start judges the used fields of the job offered
+unfoldable pub startCheck : Machine → Held → Job → Check
+startCheck m h o = machineCheck m else refuse Unfit (isHeld h || badUsed (m .width) o)
+
+abbrev pub startedBy : Check → Job → Started
+startedBy check.Passed o = started.Holds o
+startedBy (check.Refused r) o = started.Refused r
+
+unfoldable pub startOf : Machine → Held → Job → Started
+startOf m h o = startedBy (startCheck m h o) (first o)
+
+-- ---- step
+
+-- "a step while none is"
+abbrev pub badStep : ℕ → Held → Bool
+badStep n Nothing = true
+badStep n (Holds o) = badHeld n o
+
+unfoldable pub stepCheck : Machine → Held → Check
+stepCheck m h = machineCheck m else refuse Unfit (badStep (m .width) h)
+
+-- "A job step answers the command it gave", the count and the job held afterwards
+abbrev pub gave : Machine → Held → Stepped
+gave m Nothing = stepped.Refused Unfit
+gave m (Holds o) =
+    let k = command o in
+    let c = countOf m (k .panel) (k .lines) in
+    stepped.Gave k c (next o c)
+
+abbrev pub steppedBy : Check → Stepped → Stepped
+steppedBy check.Passed a = a
+steppedBy (check.Refused r) a = stepped.Refused r
+
+unfoldable pub stepOf : Machine → Held → Stepped
+stepOf m h = steppedBy (stepCheck m h) (gave m h)
+
+-- "and the machine after it is that command's pulse"; on a refusal "nothing lent changes"
+abbrev pub machineAfter : Stepped → Machine → Machine
+machineAfter (stepped.Gave k c h) m = pulsed m (k .panel) (k .lines)
+machineAfter (stepped.Refused r) m = m
+
+unfoldable pub afterStep : Machine → Held → Machine
+afterStep m h = machineAfter (stepOf m h) m

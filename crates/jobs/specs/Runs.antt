@@ -1,0 +1,36 @@
+-- Document 01, 'Jobs': a job's steps one after the other, where nothing but its steps changes the machine.
+-- Assumes nothing.
+use Prim.Native.Nat.{ℕ, zero, suc}
+use Rattle.machine.specs.Machine.{Machine}
+use Rattle.jobs.specs.declared.Held.{Held}
+use Rattle.jobs.specs.declared.Held.the-variants.{Nothing, Holds}
+use Rattle.jobs.specs.declared.Stepped.{Stepped}
+use Rattle.jobs.specs.declared.Stepped.the-variants as answer
+use Rattle.jobs.specs.Calls.{stepOf, afterStep}
+
+-- the machine and its held job
+pub record State : Type 0 where
+  pub machine : Machine
+  pub held : Held
+
+abbrev pub heldAfter : Stepped → Held → Held
+heldAfter (answer.Gave k c h) old = h
+heldAfter (answer.Refused r) old = old
+
+-- what stands after one step
+unfoldable pub stepped : State → State
+stepped s = record { machine = afterStep (s .machine) (s .held); held = heldAfter (stepOf (s .machine) (s .held)) (s .held) }
+
+-- what stands after k steps
+unfoldable pub steps : ℕ → State → State
+steps zero s = s
+steps (suc k) s = steps k (stepped s)
+
+-- how many steps are given until no job is held, of at most `most`
+abbrev pub goOn : Held → ℕ → ℕ
+goOn Nothing k = 0
+goOn (Holds o) k = suc k
+
+unfoldable pub stepsTaken : ℕ → State → ℕ
+stepsTaken zero s = 0
+stepsTaken (suc most) s = goOn (s .held) (stepsTaken most (stepped s))
