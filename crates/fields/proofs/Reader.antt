@@ -1,0 +1,247 @@
+-- The machine's definitions of search, of refusal 5 and of add are those over fields.
+-- Document 01, 'One pulse', Search and Add; refusal 5. For every width.
+-- Assumes nothing.
+use Prim.Native.Nat.{ℕ, zero, suc, _+_, _-_, _*_, _/_, _%_, _^_, _≤_, _<_, min, max}
+use mathlib.Core.Path.{_≡_, refl, sym, ap, ap₂, _∙_}
+use mathlib.Core.Bool.{Bool, true, false, _&&_, _||_}
+use mathlib.Core.List.{List, [], _∷_}
+use mathlib.Core.Logic.{⊎-elim, _⊎_, inl, inr}
+use native.Mathlib.Nat.{mod-one, div-one, zero-mod, mod-add-mod, add-mod-mod, add-zero}
+use native.Mathlib.Omega.{arith}
+use lib.Dec.{eqb, ltb}
+use lib.Pow.{pow-pos, pow-add, shr-shr}
+use lib.Bits.{bitAnd, bitOr}
+use borrow.Author.Tests.{eqb-true}
+use Rattle.laws.specs.Bits.{bit, number, every}
+use Rattle.laws.specs.Lists.{all}
+use Rattle.laws.proofs.Digits.{Bit, off, on}
+use Rattle.laws.proofs.Bits.{digit-at, shifted, top-bit, number-is, every-like, every-eqb, and-left, and-right, and-bit, or-bit, bit-none, bits-same}
+use Rattle.machine.specs.declared.Panel.{Panel}
+use Rattle.machine.specs.declared.Code.{Code}
+use Rattle.machine.specs.declared.Code.the-variants.{DontCare, Exact, Larger, Smaller}
+use Rattle.machine.specs.Machine.{Syllable, syllables, over}
+use Rattle.machine.specs.Search.{code, codeAt, eachCode, orExact, orLarger, orSmaller, oneCode, cared, readOver, satisfied}
+use Rattle.machine.specs.Search as reader
+use Rattle.machine.specs.Pulse.{addend, sums, added}
+use Rattle.machine.proofs.Masks.{addend-is}
+use Rattle.fields.specs.Fields.{fields, addIn}
+use Rattle.fields.specs.Codes.{asks, one, oneIn, satisfiedIn}
+use Rattle.fields.proofs.Syllables.{place, syllables-are}
+
+-- the code of a bit, from what stands above the syllable's lowest bit
+codes : (p : Panel) (lo j : ℕ) → codeAt p (lo + j) ≡ code (bit (p .sc1 / 2 ^ lo) j) (bit (p .sc2 / 2 ^ lo) j)
+codes p lo j = ap₂ code (shifted (p .sc1) lo j) (shifted (p .sc2) lo j)
+
+or-cases : (x y : Bool) → (x || y) ≡ true → (x ≡ true) ⊎ (y ≡ true)
+or-cases true y h = inl refl
+or-cases false y h = inr h
+
+-- ---- one code
+
+or-is : {x y : ℕ} → Bit x → Bit y → (orExact (code x y) ≡ eqb x 0) × (orLarger (code x y) ≡ eqb y 0) × (orSmaller (code x y) ≡ eqb x y)
+or-is off off = (refl, refl, refl)
+or-is off on = (refl, refl, refl)
+or-is on off = (refl, refl, refl)
+or-is on on = (refl, refl, refl)
+
+every-none : (k x : ℕ) → every k (λ j. eqb (bit x j) 0) ≡ eqb (x % 2 ^ k) 0
+every-none k x = every-like k _ _ (λ j g. ap (eqb (bit x j)) (sym (bit-none j))) ∙ every-eqb k x 0 ∙ ap (eqb (x % 2 ^ k)) (zero-mod (2 ^ k))
+
+module _ (p : Panel) (lo k : ℕ) where
+  abbrev a : ℕ
+  a = p .sc1 / 2 ^ lo
+
+  abbrev b : ℕ
+  b = p .sc2 / 2 ^ lo
+
+  abbrev y : Syllable
+  y = record { low = lo; width = k }
+
+  each-like : (test : Code → Bool) → eachCode p y test ≡ every k (λ j. test (code (bit a j) (bit b j)))
+  each-like test = every-like k _ _ (λ j g. ap test (codes p lo j))
+
+  oneCode-is : oneCode p y ≡ one (a % 2 ^ k) (b % 2 ^ k)
+  unfolding oneCode
+  oneCode-is =
+      ap₂ (λ (x z : Bool). x || z)
+      (each-like orExact ∙ every-like k _ _ (λ j g. or-is (digit-at a j) (digit-at b j) .0) ∙ every-none k a)
+      (ap₂ (λ (x z : Bool). x || z)
+      (each-like orLarger ∙ every-like k _ _ (λ j g. or-is (digit-at a j) (digit-at b j) .1) ∙ every-none k b)
+      (each-like orSmaller ∙ every-like k _ _ (λ j g. or-is (digit-at a j) (digit-at b j) .2) ∙ every-eqb k a b))
+
+-- ---- a test of every bit's code, in a syllable of one code
+
+-- t is asked by a number that is not 0
+abbrev gate : ℕ → Bool → Bool
+gate zero t = true
+gate (suc x) t = t
+
+gate-step : (k b r : ℕ) (t : Bool) → Bit b → (gate b t && gate r t) ≡ gate (b * 2 ^ k + r) t
+gate-step k b r t off = let e : r ≡ 0 * 2 ^ k + r = omega arith in ap (λ (x : ℕ). gate x t) e
+gate-step k b r t on = go r t (1 * 2 ^ k + r) (omega (arith, pow-pos k))
+  where
+    go : (r : ℕ) (t : Bool) (x : ℕ) → 0 < x → (t && gate r t) ≡ gate x t
+    go r t zero h = absurd (omega arith)
+    go zero true (suc x) h = refl
+    go (suc r) true (suc x) h = refl
+    go r false (suc x) h = refl
+
+every-gate : (k x : ℕ) (t : Bool) → every k (λ j. gate (bit x j) t) ≡ gate (x % 2 ^ k) t
+unfolding every
+every-gate zero x t = rw (mod-one x)
+every-gate (suc k) x t =
+    ap (λ (u : Bool). gate (bit x k) t && u) (every-gate k x t)
+    ∙ gate-step k (bit x k) (x % 2 ^ k) t (digit-at x k)
+    ∙ sym (ap (λ (z : ℕ). gate z t) (top-bit k x))
+
+-- the test of the code that a syllable's registers carry as numbers
+abbrev byCode : (Code → Bool) → ℕ → ℕ → Bool
+byCode test zero zero = true
+byCode test zero (suc b) = test Exact
+byCode test (suc a) zero = test Larger
+byCode test (suc a) (suc b) = test Smaller
+
+module _ (test : Code → Bool) (none : test DontCare ≡ true) where
+  at-exact : {y : ℕ} → Bit y → test (code 0 y) ≡ gate y (test Exact)
+  at-exact off = none
+  at-exact on = refl
+
+  at-larger : {x : ℕ} → Bit x → test (code x 0) ≡ gate x (test Larger)
+  at-larger off = none
+  at-larger on = refl
+
+  at-smaller : {x : ℕ} → Bit x → test (code x x) ≡ gate x (test Smaller)
+  at-smaller off = none
+  at-smaller on = refl
+
+  by-exact : (b : ℕ) → gate b (test Exact) ≡ byCode test 0 b
+  by-exact zero = refl
+  by-exact (suc b) = refl
+
+  by-larger : (a : ℕ) → gate a (test Larger) ≡ byCode test a 0
+  by-larger zero = refl
+  by-larger (suc a) = refl
+
+  by-smaller : (a : ℕ) → gate a (test Smaller) ≡ byCode test a a
+  by-smaller zero = refl
+  by-smaller (suc a) = refl
+
+  every-code : (k a b : ℕ) → one (a % 2 ^ k) (b % 2 ^ k) ≡ true → every k (λ j. test (code (bit a j) (bit b j))) ≡ byCode test (a % 2 ^ k) (b % 2 ^ k)
+  every-code k a b h =
+      ⊎-elim
+      (λ e. let z = eqb-true (a % 2 ^ k) 0 e in
+      every-like k _ _ (λ j g. rw (bits-same k a 0 (z ∙ sym (zero-mod (2 ^ k))) j g ∙ bit-none j) (at-exact (digit-at b j)))
+      ∙ every-gate k b (test Exact) ∙ by-exact (b % 2 ^ k) ∙ ap (λ (x : ℕ). byCode test x (b % 2 ^ k)) (sym z))
+      (λ r. ⊎-elim
+      (λ e. let z = eqb-true (b % 2 ^ k) 0 e in
+      every-like k _ _ (λ j g. rw (bits-same k b 0 (z ∙ sym (zero-mod (2 ^ k))) j g ∙ bit-none j) (at-larger (digit-at a j)))
+      ∙ every-gate k a (test Larger) ∙ by-larger (a % 2 ^ k) ∙ ap (byCode test (a % 2 ^ k)) (sym z))
+      (λ e. let z = eqb-true (a % 2 ^ k) (b % 2 ^ k) e in
+      every-like k _ _ (λ j g. rw (← (bits-same k a b z j g)) (at-smaller (digit-at a j)))
+      ∙ every-gate k a (test Smaller) ∙ by-smaller (a % 2 ^ k) ∙ ap (byCode test (a % 2 ^ k)) z)
+      (or-cases (eqb (b % 2 ^ k) 0) (eqb (a % 2 ^ k) (b % 2 ^ k)) r))
+      (or-cases (eqb (a % 2 ^ k) 0) (eqb (b % 2 ^ k) 0 || eqb (a % 2 ^ k) (b % 2 ^ k)) h)
+
+-- ---- the two numbers, and what is asked of them
+
+care : {a b x : ℕ} → Bit a → Bit b → Bit x → min x (max a b) ≡ cared (code a b) x
+care off off off = refl
+care off off on = refl
+care off on off = refl
+care off on on = refl
+care on off off = refl
+care on off on = refl
+care on on off = refl
+care on on on = refl
+
+asks-is : (a b u v : ℕ) → byCode (λ d. reader.asks d u v) a b ≡ asks a b u v
+asks-is zero zero u v = refl
+asks-is zero (suc b) u v = refl
+asks-is (suc a) zero u v = refl
+asks-is (suc a) (suc b) u v = refl
+
+module _ (p : Panel) (lo k : ℕ) where
+  abbrev a2 : ℕ
+  a2 = p .sc1 / 2 ^ lo
+
+  abbrev b2 : ℕ
+  b2 = p .sc2 / 2 ^ lo
+
+  abbrev y2 : Syllable
+  y2 = record { low = lo; width = k }
+
+  read-is : (x : ℕ) → readOver p y2 x ≡ bitAnd (x / 2 ^ lo) (bitOr a2 b2) % 2 ^ k
+  read-is x =
+      number-is k _ _ (λ j g. rw (codes p lo j, shifted x lo j, and-bit, or-bit) (care (digit-at a2 j) (digit-at b2 j) (digit-at (x / 2 ^ lo) j)))
+
+  satisfied-is : (w : ℕ) → one (a2 % 2 ^ k) (b2 % 2 ^ k) ≡ true
+      → satisfied p w y2
+      ≡ asks (a2 % 2 ^ k) (b2 % 2 ^ k) (bitAnd (w / 2 ^ lo) (bitOr a2 b2) % 2 ^ k) (bitAnd (p .comp / 2 ^ lo) (bitOr a2 b2) % 2 ^ k)
+  unfolding satisfied
+  satisfied-is w h =
+      each-like p lo k (λ d. reader.asks d (readOver p y2 w) (readOver p y2 (p .comp)))
+      ∙ every-code (λ d. reader.asks d (readOver p y2 w) (readOver p y2 (p .comp))) refl k a2 b2 h
+      ∙ asks-is (a2 % 2 ^ k) (b2 % 2 ^ k) _ _
+      ∙ ap₂ (asks (a2 % 2 ^ k) (b2 % 2 ^ k)) (read-is w) (read-is (p .comp))
+
+-- ---- all syllables
+
+ones-are : (p : Panel) (lo : ℕ) (ks : List ℕ) → all (oneCode p) (place lo ks) ≡ oneIn ks (p .sc1 / 2 ^ lo) (p .sc2 / 2 ^ lo)
+unfolding all place oneIn
+ones-are p lo [] = refl
+ones-are p lo (k ∷ ks) =
+    rw (shr-shr (p .sc1) lo (suc k), shr-shr (p .sc2) lo (suc k))
+    (ap₂ (λ (x y : Bool). x && y) (oneCode-is p lo (suc k)) (ones-are p (lo + suc k) ks))
+
+all-are : (p : Panel) (w lo : ℕ) (ks : List ℕ) → oneIn ks (p .sc1 / 2 ^ lo) (p .sc2 / 2 ^ lo) ≡ true
+    → all (satisfied p w) (place lo ks) ≡ satisfiedIn ks (p .sc1 / 2 ^ lo) (p .sc2 / 2 ^ lo) (w / 2 ^ lo) (p .comp / 2 ^ lo)
+unfolding all place oneIn satisfiedIn
+all-are p w lo [] h = refl
+all-are p w lo (k ∷ ks) h =
+    rw (shr-shr (p .sc1) lo (suc k), shr-shr (p .sc2) lo (suc k), shr-shr w lo (suc k), shr-shr (p .comp) lo (suc k))
+    (ap₂ (λ (x y : Bool). x && y) (satisfied-is p lo (suc k) w (and-left _ _ h))
+    (all-are p w (lo + suc k) ks
+    (rw (shr-shr (p .sc1) lo (suc k), shr-shr (p .sc2) lo (suc k)) at (and-right (one (p .sc1 / 2 ^ lo % 2 ^ suc k) (p .sc2 / 2 ^ lo % 2 ^ suc k)) _ h))))
+
+-- refusal 5, and a search that passes it
+pub one-code-is : (n : ℕ) (p : Panel) → all (oneCode p) (syllables n (p .sdr)) ≡ oneIn (fields n (p .sdr)) (p .sc1) (p .sc2)
+one-code-is n p =
+    ap (all (oneCode p)) (syllables-are n (p .sdr))
+    ∙ ones-are p 0 (fields n (p .sdr))
+    ∙ ap₂ (oneIn (fields n (p .sdr))) (div-one (p .sc1)) (div-one (p .sc2))
+
+pub all-satisfied-is : (n : ℕ) (p : Panel) (w : ℕ) → oneIn (fields n (p .sdr)) (p .sc1) (p .sc2) ≡ true
+    → all (satisfied p w) (syllables n (p .sdr)) ≡ satisfiedIn (fields n (p .sdr)) (p .sc1) (p .sc2) w (p .comp)
+all-satisfied-is n p w h =
+    ap (all (satisfied p w)) (syllables-are n (p .sdr))
+    ∙ rw (div-one (p .sc1), div-one (p .sc2), div-one w, div-one (p .comp)) at (all-are p w 0 (fields n (p .sdr)) (rw (div-one (p .sc1), div-one (p .sc2)) h))
+
+-- ---- add
+
+over-is : (x lo k : ℕ) (f : ℕ → ℕ) → ((i : ℕ) → bit x i ≡ f i) → over (record { low = lo; width = k }) f ≡ x / 2 ^ lo % 2 ^ k
+over-is x lo k f h = number-is k (x / 2 ^ lo) _ (λ j g. sym (shifted x lo j) ∙ h (lo + j))
+
+sums-are : (p : Panel) (w lo : ℕ) (ks : List ℕ)
+    → sums p w (place lo ks) ≡ addIn ks (w / 2 ^ lo) (bitAnd (p .comp) (p .mor) / 2 ^ lo) 0 * 2 ^ lo
+unfolding sums place addIn
+sums-are p w lo [] = omega arith
+sums-are p w lo (k ∷ ks) =
+    let a : ℕ = bitAnd (p .comp) (p .mor) in
+    rw (
+      over-is w lo (suc k) (bit w) (λ i. refl),
+      over-is a lo (suc k) (addend p) (addend-is p),
+      sums-are p w (lo + suc k) ks,
+      mod-add-mod,
+      add-mod-mod,
+      shr-shr w lo (suc k),
+      shr-shr a lo (suc k),
+      add-zero,
+      pow-add 2 lo (suc k),
+    ) (omega arith)
+
+pub added-is : (n : ℕ) (p : Panel) (w : ℕ) → added n p w ≡ addIn (fields n (p .sdr)) w (bitAnd (p .comp) (p .mor)) 0
+unfolding added
+added-is n p w =
+    ap (sums p w) (syllables-are n (p .sdr))
+    ∙ sums-are p w 0 (fields n (p .sdr))
+    ∙ rw (div-one w, div-one (bitAnd (p .comp) (p .mor))) (omega arith)

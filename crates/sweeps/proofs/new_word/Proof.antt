@@ -1,0 +1,50 @@
+use mathlib.Core.Path.{refl}
+use Rattle.sweeps.specs.Rules.{new}
+use borrow.Author.Needs.{needs}
+use Rattle.sweeps.proofs.new_word.Statement.{statement}
+use Rattle.sweeps.proofs.new_word.Tie as tie
+use Rattle.sweeps.proofs.new_word.Reads as reads
+use Rattle.sweeps.proofs.new_word.Lts as lts
+use Rattle.sweeps.proofs.summed_of.Reads as summed-of-reads
+use Rattle.sweeps.proofs.written_of.Reads as written-of-reads
+
+written-of-requires : tie.Need-written-of-requires
+written-of-requires c κs = search needs
+
+summed-of-requires : tie.Need-summed-of-requires
+summed-of-requires c κs = search needs
+
+written-of-requires-2 : tie.Need-written-of-requires-2
+written-of-requires-2 c κs = search needs
+
+summed-of-requires-2 : tie.Need-summed-of-requires-2
+summed-of-requires-2 c κs = search needs
+
+returns : tie.Need-returns
+unfolding new
+returns c = rw (c .before .before .before .if1 .taken, c .before .before .if2 .taken, c .before .written-of .ensures, c .summed-of .ensures) refl
+
+returns-2 : tie.Need-returns-2
+unfolding new
+returns-2 c = rw (c .before .before .if1 .taken, c .before .if2 .left) (c .written-of2 .ensures)
+
+returns-3 : tie.Need-returns-3
+unfolding new
+returns-3 c = rw (c .before .before .if1 .left, c .before .if3 .taken) (c .summed-of2 .ensures)
+
+returns-4 : tie.Need-returns-4
+unfolding new
+returns-4 c = rw (c .before .if1 .left, c .if3 .left)
+
+pub new-word-spec : {M : Type 1} → statement M
+new-word-spec =
+    tie.close
+    (tie.spec
+    written-of-requires
+    summed-of-requires
+    written-of-requires-2
+    summed-of-requires-2
+    returns
+    returns-2
+    returns-3
+    returns-4)

@@ -1,0 +1,14 @@
+
+use Rattle.sweeps.proofs.put_in.Statement.{statement}
+use Rattle.sweeps.proofs.put_in.Tie as tie
+use Rattle.sweeps.proofs.put_in.Reads as reads
+use Rattle.sweeps.proofs.put_in.Lts as lts
+
+returns : tie.Need-returns
+returns c = rw (c .if1 .taken)
+
+returns-2 : tie.Need-returns-2
+returns-2 c = rw (c .if1 .left)
+
+pub put-in-spec : {M : Type 1} → statement M
+put-in-spec = tie.close (tie.spec returns returns-2)

@@ -1,0 +1,28 @@
+-- One list changed beside another, and what a sweep gathers from a list.
+-- Assumes nothing.
+use Prim.Native.Nat.{ℕ, zero, suc, _+_}
+use mathlib.Core.Bool.{Bool, true, false}
+use mathlib.Core.List.{List, [], _∷_}
+use lib.Bits.{bitOr}
+use Rattle.laws.specs.Bits.{digit}
+
+-- each y that has an x beside it becomes f x y; the rest stays
+unfoldable pub along : (ℕ → ℕ → ℕ) → List ℕ → List ℕ → List ℕ
+along f [] ys = ys
+along f (x ∷ xs) [] = []
+along f (x ∷ xs) (y ∷ ys) = f x y ∷ along f xs ys
+
+-- each y becomes f y
+unfoldable pub each : (ℕ → ℕ) → List ℕ → List ℕ
+each f [] = []
+each f (y ∷ ys) = f y ∷ each f ys
+
+-- how many pass the test
+unfoldable pub many : (ℕ → Bool) → List ℕ → ℕ
+many h [] = zero
+many h (y ∷ ys) = digit (h y) + many h ys
+
+-- the bits that stand in a or in any of the list
+unfoldable pub union : ℕ → List ℕ → ℕ
+union a [] = a
+union a (y ∷ ys) = union (bitOr a y) ys

@@ -1,0 +1,3 @@
+-- what the sweeps' contracts cite
+pub mod Along
+pub mod Rules

@@ -1,0 +1,72 @@
+-- What a sweep does to one word or to its response bits, as the code computes it. What the masks stand for is not known here.
+-- Assumes nothing.
+use Prim.Native.Nat.{ℕ, zero, suc, _+_, _-_, _%_, _^_}
+use mathlib.Core.Bool.{Bool, true, false, _&&_}
+use lib.Dec.{eqb}
+use lib.Bits.{bitAnd, bitOr, bitXor}
+use Rattle.laws.specs.Bits.{pick, digit}
+use Rattle.machine.specs.Machine.{responseBits}
+use Rattle.sweeps.specs.declared.Masks.{Masks}
+use Rattle.sweeps.specs.declared.Tags.{Tags}
+use Rattle.sweeps.specs.declared.Changes.{Changes}
+
+-- ---- search
+
+-- a carry out of u and v, where `low` is the sum of the bits below
+abbrev pub carried : ℕ → ℕ → ℕ → ℕ
+carried u v low = bitOr (bitAnd u v) (bitAnd (bitOr u v) low)
+
+-- not 0 where a syllable is not satisfied
+unfoldable pub fails : Masks → ℕ → ℕ
+fails m w =
+    let u = bitXor (bitAnd w (m .care)) (m .flip) in
+    bitAnd (m .need) (2 ^ 64 - 1 - carried (m .limit) u ((m .rest + bitAnd u (m .low)) % 2 ^ 64))
+
+-- 1 where the word is satisfied
+unfoldable pub flag : Masks → ℕ → ℕ
+flag m w = digit (eqb (fails m w) 0)
+
+unfoldable pub chosen : Tags → ℕ → Bool
+chosen p r = eqb (bitAnd r (p .care)) (bitAnd (p .key) (p .care))
+
+-- of a flag and the response bits
+unfoldable pub hit : Tags → ℕ → ℕ → Bool
+hit p x r = eqb x 1 && chosen p r
+
+abbrev pub put : ℕ → Bool → ℕ → ℕ
+put target true r = bitOr r target
+put target false r = bitAnd r (2 ^ responseBits - 1 - target)
+
+unfoldable pub mark : Tags → ℕ → ℕ → ℕ
+mark p x r = put (p .target) (hit p x r) r
+
+-- of a word and its response bits
+unfoldable pub found : Masks → Tags → ℕ → ℕ → Bool
+found m p w r = hit p (flag m w) r
+
+unfoldable pub answer : Masks → Tags → ℕ → ℕ → ℕ
+answer m p w r = mark p (flag m w) r
+
+-- ---- write and add
+
+unfoldable pub written : Changes → ℕ → ℕ
+written q w = bitXor w (bitAnd (bitXor w (q .comp)) (q .mor))
+
+unfoldable pub summed : Changes → ℕ → ℕ
+summed q w = bitXor ((bitAnd w (q .low) + q .rest) % 2 ^ 64) (bitAnd (bitXor w (q .addend)) (q .tops))
+
+-- a word that is written or not, added to or not
+unfoldable pub new : Bool → Bool → Changes → ℕ → ℕ
+new false false q w = w
+new false true q w = summed q w
+new true false q w = written q w
+new true true q w = bitOr (written q w) (summed q w)
+
+-- of the response bits and the word
+unfoldable pub changed : Bool → Bool → Changes → Tags → ℕ → ℕ → ℕ
+changed write add q p r w = pick (chosen p r) (new write add q w) w
+
+-- ---- complement
+
+unfoldable pub flipped : Tags → ℕ → ℕ
+flipped p r = pick (chosen p r) (bitXor r (p .target)) r

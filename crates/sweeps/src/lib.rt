@@ -1,0 +1,313 @@
+// The sweeps over all words: loops with a constant number of word operations for each word, however many syllables there are.
+// They know nothing of the machine; their contracts say which rule of specs/Rules each word and response takes, and how many words pass.
+// Document 01, 'One pulse'. Words and response bits are read before they change: "All results are worked out from the machine before the pulse."
+ghost use mathlib.Core.Path.{_≡_};
+ghost use mathlib.Core.Bool.{true, false};
+ghost use Prim.Native.Nat.{ℕ, _+_, _-_, _≤_, _<_, min};
+ghost use lib.ListN.{length, getD};
+ghost use Rattle.laws.specs.Bits.{pick};
+ghost use Rattle.laws.specs.Lists.{count};
+ghost use Rattle.sweeps.specs.Along.{along, each, many};
+ghost use Rattle.sweeps.specs.Along as lists;
+ghost use Rattle.sweeps.specs.Rules.{fails, flag, chosen, hit, put, mark, found, answer, written, summed, new, changed, flipped};
+use machine::Response;
+
+// What a search works out of the panel once: a word's cared bits, turned by `flip`, are held against `limit` in each syllable; `low` are the bits
+// that are no syllable's top, and `need` the tops of the syllables that ask for anything.
+pub struct Masks {
+    pub care: u64,
+    pub flip: u64,
+    pub limit: u64,
+    pub rest: u64,
+    pub low: u64,
+    pub need: u64,
+}
+
+// What selects, and what is marked.
+pub struct Tags {
+    pub key: Response,
+    pub care: Response,
+    pub target: Response,
+}
+
+// What a write and an add work out of the panel once; `low` are the bits that are no syllable's top.
+pub struct Changes {
+    pub comp: u64,
+    pub mor: u64,
+    pub addend: u64,
+    pub rest: u64,
+    pub low: u64,
+    pub tops: u64,
+}
+
+// ---- one word
+
+fn fails_of(m: Masks, w: u64) -> u64
+    ensures { λ r. ⌜ r ≡ fails m w ⌝ }
+{
+    let u = (w & m.care) ^ m.flip;
+    let low = std::num::wrapping_add_u64(m.rest, u & m.low);
+    m.need & !((m.limit & u) | ((m.limit | u) & low))
+}
+
+fn flag_of(m: Masks, w: u64) -> u8
+    ensures { λ r. ⌜ r ≡ flag m w ⌝ }
+{
+    (fails_of(m, w) == 0) as u8
+}
+
+pub fn chosen_of(p: Tags, r: Response) -> bool
+    ensures { λ h. ⌜ h ≡ chosen p r ⌝ }
+{
+    (r & p.care) == (p.key & p.care)
+}
+
+fn hit_of(p: Tags, x: u8, r: Response) -> bool
+    ensures { λ h. ⌜ h ≡ hit p x r ⌝ }
+{
+    (x == 1) & chosen_of(p, r)
+}
+
+fn put_in(target: Response, h: bool, r: Response) -> Response
+    ensures { λ x. ⌜ x ≡ put target h r ⌝ }
+{
+    if h { r | target } else { r & !target }
+}
+
+fn written_of(q: Changes, w: u64) -> u64
+    ensures { λ r. ⌜ r ≡ written q w ⌝ }
+{
+    w ^ ((w ^ q.comp) & q.mor)
+}
+
+// "a 64-bit syllable at 2^64-1 plus 1 gives 0"
+fn summed_of(q: Changes, w: u64) -> u64
+    ensures { λ r. ⌜ r ≡ summed q w ⌝ }
+{
+    let low = std::num::wrapping_add_u64(w & q.low, q.rest);
+    low ^ ((w ^ q.addend) & q.tops)
+}
+
+fn kept(h: bool, x: u64, y: u64) -> u64
+    ensures { λ r. ⌜ r ≡ pick h x y ⌝ }
+{
+    if h { x } else { y }
+}
+
+fn flipped_of(p: Tags, r: Response) -> Response
+    ensures { λ x. ⌜ x ≡ flipped p r ⌝ }
+{
+    if chosen_of(p, r) { r ^ p.target } else { r }
+}
+
+pub fn new_word(q: Changes, write: bool, add: bool, w: u64) -> u64
+    ensures { λ r. ⌜ r ≡ new write add q w ⌝ }
+{
+    if write {
+        if add {
+            written_of(q, w) | summed_of(q, w)
+        } else {
+            written_of(q, w)
+        }
+    } else {
+        if add { summed_of(q, w) } else { w }
+    }
+}
+
+// ---- all words
+
+fn shorter(a: usize, b: usize) -> usize
+    ensures { λ r. ⌜ (r ≤ a) × (r ≤ b) × (r ≡ min a b) ⌝ }
+{
+    if a < b { a } else { b }
+}
+
+// Search, first half of a block: a flag for each word.
+fn flags(m: Masks, words: &[u64], h: &mut [u8; 64])
+    requires { ⌜ (length (now words) ≤ 64) × (length (now h) ≡ 64) ⌝ }
+    ensures { λ r. ⌜ ((j : ℕ) → j < length (now (words .entry)) → getD (now (h .exit)) j 0 ≡ flag m (getD (now (words .entry)) j 0)) × (length (now (h .exit)) ≡ 64) ⌝ }
+{
+    let mut i: usize = 0;
+    while i < words.len() {
+        h[i] = flag_of(m, words[i]);
+        i += 1;
+    }
+}
+
+// Search, second half: the response bits of a block by its flags.
+fn marks(p: Tags, h: &[u8; 64], responses: &mut [Response]) -> u8
+    requires { ⌜ (length (now responses) ≤ 64) × (length (now h) ≡ 64) ⌝ }
+    ensures { λ n. ⌜ n ≡ count (hit p) (now (h .entry)) (now (responses .entry)) ⌝ }
+    ensures { λ n. ⌜ now (responses .exit) ≡ along (mark p) (now (h .entry)) (now (responses .entry)) ⌝ }
+{
+    let mut n: u8 = 0;
+    let mut i: usize = 0;
+    while i < responses.len() {
+        let r = responses[i];
+        let x = hit_of(p, h[i], r);
+        responses[i] = put_in(p.target, x, r);
+        n += x as u8;
+        i += 1;
+    }
+    n
+}
+
+// The end of the block that starts at i: 64 words on, or n.
+fn block_end(i: usize, n: usize) -> usize
+    requires { ⌜ i < n ⌝ }
+    ensures { λ r. ⌜ (i < r) × (r ≤ n) × (r ≤ i + 64) ⌝ }
+{
+    if 64 < n - i { i + 64 } else { n }
+}
+
+fn size(x: u8) -> usize
+    ensures { λ r. ⌜ r ≡ x ⌝ }
+{
+    x as usize
+}
+
+// Search alone.
+pub fn search(m: Masks, p: Tags, words: &[u64], responses: &mut [Response]) -> usize
+    ensures { λ n. ⌜ n ≡ count (found m p) (now (words .entry)) (now (responses .entry)) ⌝ }
+    ensures { λ n. ⌜ now (responses .exit) ≡ along (answer m p) (now (words .entry)) (now (responses .entry)) ⌝ }
+{
+    let mut n: usize = 0;
+    let mut h: [u8; 64] = [0; 64];
+    let all = shorter(words.len(), responses.len());
+    let mut i: usize = 0;
+    while i < all {
+        let e = block_end(i, all);
+        flags(m, &words[i..e], &mut h);
+        n += size(marks(p, &h, &mut responses[i..e]));
+        i = e;
+    }
+    n
+}
+
+// How many words are selected: counted in bytes, a block at a time.
+fn tally_block(p: Tags, responses: &[Response]) -> u8
+    requires { ⌜ length (now responses) ≤ 64 ⌝ }
+    ensures { λ n. ⌜ n ≡ many (chosen p) (now (responses .entry)) ⌝ }
+{
+    let mut n: u8 = 0;
+    let mut i: usize = 0;
+    while i < responses.len() {
+        n += chosen_of(p, responses[i]) as u8;
+        i += 1;
+    }
+    n
+}
+
+pub fn tally(p: Tags, responses: &[Response]) -> usize
+    ensures { λ n. ⌜ n ≡ many (chosen p) (now (responses .entry)) ⌝ }
+{
+    let mut n: usize = 0;
+    let mut i: usize = 0;
+    while i < responses.len() {
+        let e = block_end(i, responses.len());
+        n += size(tally_block(p, &responses[i..e]));
+        i = e;
+    }
+    n
+}
+
+// Complement.
+pub fn flip(p: Tags, responses: &mut [Response])
+    ensures { λ n. ⌜ now (responses .exit) ≡ each (flipped p) (now (responses .entry)) ⌝ }
+{
+    let mut i: usize = 0;
+    while i < responses.len() {
+        responses[i] = flipped_of(p, responses[i]);
+        i += 1;
+    }
+}
+
+// Multiwrite alone.
+fn multiwrite(q: Changes, p: Tags, words: &mut [u64], responses: &[Response])
+    ensures { λ n. ⌜ now (words .exit) ≡ along (changed true false q p) (now (responses .entry)) (now (words .entry)) ⌝ }
+{
+    let all = shorter(words.len(), responses.len());
+    let mut i: usize = 0;
+    while i < all {
+        let w = words[i];
+        words[i] = kept(chosen_of(p, responses[i]), written_of(q, w), w);
+        i += 1;
+    }
+}
+
+// Multiadd alone.
+fn multiadd(q: Changes, p: Tags, words: &mut [u64], responses: &[Response])
+    ensures { λ n. ⌜ now (words .exit) ≡ along (changed false true q p) (now (responses .entry)) (now (words .entry)) ⌝ }
+{
+    let all = shorter(words.len(), responses.len());
+    let mut i: usize = 0;
+    while i < all {
+        let w = words[i];
+        words[i] = kept(chosen_of(p, responses[i]), summed_of(q, w), w);
+        i += 1;
+    }
+}
+
+// Multiwrite and multiadd: "at each bit, the OR of the two results".
+fn multiboth(q: Changes, p: Tags, words: &mut [u64], responses: &[Response])
+    ensures { λ n. ⌜ now (words .exit) ≡ along (changed true true q p) (now (responses .entry)) (now (words .entry)) ⌝ }
+{
+    let all = shorter(words.len(), responses.len());
+    let mut i: usize = 0;
+    while i < all {
+        let w = words[i];
+        words[i] = kept(chosen_of(p, responses[i]), written_of(q, w) | summed_of(q, w), w);
+        i += 1;
+    }
+}
+
+// Every selected word written or not, added to or not.
+pub fn change(q: Changes, p: Tags, write: bool, add: bool, words: &mut [u64], responses: &[Response])
+    ensures { λ n. ⌜ now (words .exit) ≡ along (changed write add q p) (now (responses .entry)) (now (words .entry)) ⌝ }
+{
+    if write {
+        if add {
+            multiboth(q, p, words, responses);
+        } else {
+            multiwrite(q, p, words, responses);
+        }
+    } else {
+        if add {
+            multiadd(q, p, words, responses);
+        }
+    }
+}
+
+// Search together with a change of words: a block's flags first, from its words as they stood, then its words by their response bits as they
+// stood, then its response bits.
+pub fn search_change(m: Masks, q: Changes, p: Tags, write: bool, add: bool, words: &mut [u64], responses: &mut [Response]) -> usize
+    ensures { λ n. ⌜ n ≡ count (found m p) (now (words .entry)) (now (responses .entry)) ⌝ }
+    ensures { λ n. ⌜ now (words .exit) ≡ along (changed write add q p) (now (responses .entry)) (now (words .entry)) ⌝ }
+    ensures { λ n. ⌜ now (responses .exit) ≡ along (answer m p) (now (words .entry)) (now (responses .entry)) ⌝ }
+{
+    let mut n: usize = 0;
+    let mut h: [u8; 64] = [0; 64];
+    let all = shorter(words.len(), responses.len());
+    let mut i: usize = 0;
+    while i < all {
+        let e = block_end(i, all);
+        flags(m, &words[i..e], &mut h);
+        change(q, p, write, add, &mut words[i..e], &responses[i..e]);
+        n += size(marks(p, &h, &mut responses[i..e]));
+        i = e;
+    }
+    n
+}
+
+// The bits that any word has.
+pub fn union(words: &[u64]) -> u64
+    ensures { λ r. ⌜ r ≡ lists.union 0 (now (words .entry)) ⌝ }
+{
+    let mut all: u64 = 0;
+    let mut i: usize = 0;
+    while i < words.len() {
+        all = all | words[i];
+        i += 1;
+    }
+    all
+}

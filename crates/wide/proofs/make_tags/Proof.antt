@@ -1,0 +1,13 @@
+use mathlib.Core.Path.{refl}
+use Rattle.wide.specs.Plan.{tagsOf}
+use Rattle.wide.proofs.make_tags.Statement.{statement}
+use Rattle.wide.proofs.make_tags.Tie as tie
+use Rattle.wide.proofs.make_tags.Reads as reads
+use Rattle.wide.proofs.make_tags.Lts as lts
+
+returns : tie.Need-returns
+unfolding tagsOf
+returns c = refl
+
+pub make-tags-spec : {M : Type 1} → statement M
+make-tags-spec = tie.close (tie.spec returns)

@@ -1,0 +1,3 @@
+-- what the word-wide machine's inner contracts cite
+pub mod Plan
+pub mod Accepted

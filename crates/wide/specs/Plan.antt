@@ -1,0 +1,52 @@
+-- What a pulse works out of the panel once, as the code computes it. Document 01, 'One pulse'.
+-- Assumes nothing.
+use Prim.Native.Nat.{ℕ, _-_, _^_}
+use lib.Bits.{bitAnd, bitOr, bitXor}
+use Rattle.machine.specs.declared.Panel.{Panel}
+use Rattle.fields.specs.Fields.{fields, addIn, aboveIn}
+use Rattle.fields.specs.Tops.{topsOf}
+use Rattle.sweeps.specs.declared.Masks.{Masks}
+use Rattle.sweeps.specs.declared.Tags.{Tags}
+use Rattle.sweeps.specs.declared.Changes.{Changes}
+
+-- the bits of code exact, and of code larger, where SC1 is a and SC2 is b
+abbrev pub exactBits : ℕ → ℕ → ℕ
+exactBits a b = bitXor b (bitAnd a b)
+
+abbrev pub largerBits : ℕ → ℕ → ℕ
+largerBits a b = bitXor a (bitAnd a b)
+
+-- what a turned word must stay below in each syllable: smaller, COMP; larger, COMP's complement; exact, the lowest exact bit. `less` is each
+-- syllable of the exact bits less one.
+abbrev pub limitOf : ℕ → ℕ → ℕ → ℕ → ℕ
+limitOf a b c less = bitXor (bitXor (exactBits a b) (bitAnd (exactBits a b) less)) (bitXor (bitAnd c a) (largerBits a b))
+
+unfoldable pub masksOf : ℕ → Panel → Masks
+masksOf n p =
+    let t = topsOf n (p .sdr) in
+    let exact = exactBits (p .sc1) (p .sc2) in
+    let limit = limitOf (p .sc1) (p .sc2) (p .comp) (addIn (fields n t) exact (2 ^ n - 1) 0) in
+    record {
+      care = bitOr (p .sc1) (p .sc2);
+      flip = bitXor (2 ^ n - 1) (bitXor (largerBits (p .sc1) (p .sc2)) (bitAnd (p .comp) exact));
+      limit = limit;
+      rest = bitAnd limit (2 ^ 64 - 1 - t);
+      low = 2 ^ 64 - 1 - t;
+      need = aboveIn (fields n t) (bitOr (p .sc1) (p .sc2)) 0 0;
+    }
+
+unfoldable pub tagsOf : Panel → Tags
+tagsOf p = record { key = p .key; care = p .care; target = p .target }
+
+unfoldable pub changesOf : ℕ → Panel → Changes
+changesOf n p =
+    let t = topsOf n (p .sdr) in
+    let addend = bitAnd (p .comp) (p .mor) in
+    record {
+      comp = p .comp;
+      mor = p .mor;
+      addend = addend;
+      rest = bitAnd addend (2 ^ 64 - 1 - t);
+      low = 2 ^ 64 - 1 - t;
+      tops = t;
+    }

@@ -1,0 +1,295 @@
+// The word-wide machine: one pulse with a constant number of word operations for each word, however many syllables there are.
+// Document 01, 'One pulse'. Its contract is the plain machine's. Masks are worked out once per pulse, in constant time.
+ghost use mathlib.Core.Path.{_≡_};
+ghost use mathlib.Core.Bool.{true, false};
+ghost use Prim.Native.Nat.{_-_, _^_, _≤_, _<_};
+ghost use lib.ListN.{length, getD};
+ghost use Rattle.laws.specs.Bits.{pick};
+ghost use Rattle.laws.specs.Lists.{zip, count};
+ghost use Rattle.machine.specs.Machine.{machine};
+ghost use Rattle.machine.specs.Pulse.{counts, wordAfter, responseAfter, countOf, pulsed};
+ghost use Rattle.machine.specs.Resolution.{lowest};
+ghost use Rattle.machine.specs.Refusals.{tooWide, badCodes, refuseWord, machineCheck, pulseCheck, answerOf, after};
+ghost use Rattle.fields.specs.Fields.{fields, addIn, aboveIn};
+ghost use Rattle.fields.specs.Tops.{topsOf, Topped};
+ghost use Rattle.wide.specs.Plan.{masksOf, tagsOf, changesOf};
+ghost use Rattle.wide.specs.Accepted.{Fit, Accepted, restCheck, multiAfter};
+use machine::Answer;
+use machine::Check;
+use machine::Lines;
+use machine::Panel;
+use machine::Refusal;
+use machine::Response;
+use sweeps::Changes;
+use sweeps::Masks;
+use sweeps::Tags;
+
+// ---- whole words, all syllables at once
+
+// The bits of a word.
+fn mask_of(width: u32) -> u64
+    requires { ⌜ (0 < width) × (width ≤ 64) ⌝ }
+    ensures { λ r. ⌜ r ≡ 2 ^ width - 1 ⌝ }
+{
+    u64::MAX >> (64 - width)
+}
+
+// The top bit of each syllable: "Bit N-1 always starts a syllable (house)."
+fn tops_of(width: u32, sdr: u64) -> u64
+    requires { ⌜ (0 < width) × (width ≤ 64) ⌝ }
+    ensures { λ r. ⌜ r ≡ topsOf width sdr ⌝ }
+{
+    sdr | (1u64 << (width - 1))
+}
+
+// Each syllable of w plus that of a, modulo 2 to its width.
+fn add_word(width: u32, t: u64, w: u64, a: u64) -> u64
+    requires { ⌜ (0 < width) × (width ≤ 64) ⌝ }
+    ensures { λ r. ⌜ r ≡ addIn (fields width t) w a 0 ⌝ }
+{
+    let low = std::num::wrapping_add_u64(w & !t, a & !t);
+    (low ^ ((w ^ a) & t)) & mask_of(width)
+}
+
+// A one at the top of each syllable that is not 0.
+fn filled(width: u32, t: u64, q: u64) -> u64
+    requires { ⌜ Topped width t ⌝ }
+    requires { ⌜ q < 2 ^ width ⌝ }
+    ensures { λ r. ⌜ r ≡ aboveIn (fields width t) q 0 0 ⌝ }
+{
+    let u = mask_of(width);
+    let low = std::num::wrapping_add_u64(q & !t, u & !t);
+    ((q & u) | ((q | u) & low)) & t
+}
+
+// ---- what a pulse works out of the panel once
+
+fn make_tags(panel: Panel) -> Tags
+    ensures { λ r. ⌜ r ≡ tagsOf panel ⌝ }
+{
+    Tags {
+        key: panel.key,
+        care: panel.care,
+        target: panel.target,
+    }
+}
+
+fn make_masks(width: u32, panel: Panel) -> Masks
+    requires { ⌜ Fit width panel ⌝ }
+    ensures { λ r. ⌜ r ≡ masksOf width panel ⌝ }
+{
+    let t = tops_of(width, panel.sdr);
+    let mask = mask_of(width);
+    let smaller = panel.sc1 & panel.sc2;
+    let exact = panel.sc2 ^ smaller;
+    let larger = panel.sc1 ^ smaller;
+    let less = add_word(width, t, exact, mask);
+    let need = filled(width, t, panel.sc1 | panel.sc2);
+    let limit = (exact ^ (exact & less)) ^ ((panel.comp & panel.sc1) ^ larger);
+    Masks {
+        care: panel.sc1 | panel.sc2,
+        flip: mask ^ (larger ^ (panel.comp & exact)),
+        limit,
+        rest: limit & !t,
+        low: !t,
+        need,
+    }
+}
+
+fn make_changes(width: u32, panel: Panel) -> Changes
+    requires { ⌜ Fit width panel ⌝ }
+    ensures { λ r. ⌜ r ≡ changesOf width panel ⌝ }
+{
+    let t = tops_of(width, panel.sdr);
+    let addend = panel.comp & panel.mor;
+    Changes {
+        comp: panel.comp,
+        mor: panel.mor,
+        addend,
+        rest: addend & !t,
+        low: !t,
+        tops: t,
+    }
+}
+
+// ---- the checks, 1 to 7
+
+// 3: the OR of all words first, and the scan for the lowest only if that is too wide.
+fn check_words(width: u32, words: &[u64]) -> Check
+    ensures { λ r. ⌜ r ≡ refuseWord (lowest (tooWide width) 0 (now (words .entry))) ⌝ }
+{
+    if width < 64 {
+        if machine::too_wide(width, sweeps::union(words)) {
+            machine::refuse_word(machine::first_too_wide(width, words))
+        } else {
+            Check::Passed
+        }
+    } else {
+        Check::Passed
+    }
+}
+
+// 1 to 3.
+fn check_machine(words: &[u64], responses: &[Response], width: u32) -> Check
+    ensures { λ r. ⌜ r ≡ machineCheck (machine width (now (words .entry)) (now (responses .entry))) ⌝ }
+{
+    if machine::bad_size(words.len(), responses.len()) {
+        return Check::Refused(Refusal::Size);
+    }
+    if machine::bad_width(width) {
+        return Check::Refused(Refusal::Width);
+    }
+    check_words(width, words)
+}
+
+// 5: a syllable in which SC1, SC2 and their difference all have a one.
+fn bad_codes(width: u32, panel: Panel, lines: Lines) -> bool
+    requires { ⌜ Fit width panel ⌝ }
+    ensures { λ r. ⌜ r ≡ badCodes width panel lines ⌝ }
+{
+    if lines.search {
+        let t = tops_of(width, panel.sdr);
+        let x = filled(width, t, panel.sc1);
+        let y = filled(width, t, panel.sc2);
+        let z = filled(width, t, panel.sc1 ^ panel.sc2);
+        let two = x & y & z;
+        !(two == 0)
+    } else {
+        false
+    }
+}
+
+// 4 to 7, where 1 to 3 are passed.
+fn check_rest(words: usize, width: u32, panel: Panel, lines: Lines) -> Check
+    requires { ⌜ (0 < width) × (width ≤ 64) ⌝ }
+    ensures { λ r. ⌜ r ≡ restCheck words width panel lines ⌝ }
+{
+    if machine::bad_panel(width, panel) {
+        return Check::Refused(Refusal::PanelTooWide);
+    }
+    if bad_codes(width, panel, lines) {
+        return Check::Refused(Refusal::TwoCodes);
+    }
+    machine::check_command(words, panel, lines)
+}
+
+// "A pulse is checked for 1 to 7 .. Checked in number order."
+fn check(words: &[u64], responses: &[Response], width: u32, panel: Panel, lines: Lines) -> Check
+    ensures { λ r. ⌜ r ≡ pulseCheck (machine width (now (words .entry)) (now (responses .entry))) panel lines ⌝ }
+{
+    let first = check_machine(words, responses, width);
+    match first {
+        Check::Refused(why) => Check::Refused(why),
+        Check::Passed => check_rest(words.len(), width, panel, lines),
+    }
+}
+
+// ---- all words
+
+// Search raised: all words but for the addressed one's change.
+fn sweep_search(width: u32, panel: Panel, lines: Lines, words: &mut [u64], responses: &mut [Response]) -> usize
+    requires { ⌜ Accepted width panel lines (now words) (now responses) ⌝ }
+    requires { ⌜ lines .search ≡ true ⌝ }
+    ensures { λ n. ⌜ n ≡ count (counts width panel lines) (now (words .entry)) (now (responses .entry)) ⌝ }
+    ensures { λ n. ⌜ now (words .exit) ≡ zip (multiAfter width panel lines) 0 (now (words .entry)) (now (responses .entry)) ⌝ }
+    ensures { λ n. ⌜ now (responses .exit) ≡ zip (responseAfter width panel lines) 0 (now (words .entry)) (now (responses .entry)) ⌝ }
+{
+    let tags = make_tags(panel);
+    let masks = make_masks(width, panel);
+    if lines.multiwrite | lines.multiadd {
+        let changes = make_changes(width, panel);
+        sweeps::search_change(masks, changes, tags, lines.multiwrite, lines.multiadd, words, responses)
+    } else {
+        sweeps::search(masks, tags, words, responses)
+    }
+}
+
+// Search not raised.
+fn sweep_others(width: u32, panel: Panel, lines: Lines, words: &mut [u64], responses: &mut [Response]) -> usize
+    requires { ⌜ Accepted width panel lines (now words) (now responses) ⌝ }
+    requires { ⌜ lines .search ≡ false ⌝ }
+    ensures { λ n. ⌜ n ≡ count (counts width panel lines) (now (words .entry)) (now (responses .entry)) ⌝ }
+    ensures { λ n. ⌜ now (words .exit) ≡ zip (multiAfter width panel lines) 0 (now (words .entry)) (now (responses .entry)) ⌝ }
+    ensures { λ n. ⌜ now (responses .exit) ≡ zip (responseAfter width panel lines) 0 (now (words .entry)) (now (responses .entry)) ⌝ }
+{
+    let tags = make_tags(panel);
+    let changes = make_changes(width, panel);
+    let n = sweeps::tally(tags, responses);
+    sweeps::change(changes, tags, lines.multiwrite, lines.multiadd, words, responses);
+    if lines.complement {
+        sweeps::flip(tags, responses);
+        n
+    } else {
+        n
+    }
+}
+
+fn sweep(width: u32, panel: Panel, lines: Lines, words: &mut [u64], responses: &mut [Response]) -> usize
+    requires { ⌜ Accepted width panel lines (now words) (now responses) ⌝ }
+    ensures { λ n. ⌜ n ≡ count (counts width panel lines) (now (words .entry)) (now (responses .entry)) ⌝ }
+    ensures { λ n. ⌜ now (words .exit) ≡ zip (multiAfter width panel lines) 0 (now (words .entry)) (now (responses .entry)) ⌝ }
+    ensures { λ n. ⌜ now (responses .exit) ≡ zip (responseAfter width panel lines) 0 (now (words .entry)) (now (responses .entry)) ⌝ }
+{
+    if lines.search {
+        sweep_search(width, panel, lines, words, responses)
+    } else {
+        sweep_others(width, panel, lines, words, responses)
+    }
+}
+
+// ---- the addressed word
+
+// "Two writes on one word write once; two adds add once (house)."
+fn new_at(width: u32, panel: Panel, lines: Lines, w: u64, r: Response) -> u64
+    requires { ⌜ Fit width panel ⌝ }
+    requires { ⌜ w < 2 ^ width ⌝ }
+    ensures { λ x. ⌜ x ≡ wordAfter width panel lines (panel .address .0) w r ⌝ }
+{
+    let changes = make_changes(width, panel);
+    let chosen = sweeps::chosen_of(make_tags(panel), r);
+    sweeps::new_word(changes, lines.write | (lines.multiwrite & chosen), lines.add | (lines.multiadd & chosen), w)
+}
+
+// The addressed word is worked out before the sweep and stored after it: "All results are worked out from the machine before the pulse."
+fn run(width: u32, panel: Panel, lines: Lines, words: &mut [u64], responses: &mut [Response]) -> usize
+    requires { ⌜ Accepted width panel lines (now words) (now responses) ⌝ }
+    ensures { λ n. ⌜ n ≡ countOf (machine width (now (words .entry)) (now (responses .entry))) panel lines ⌝ }
+    ensures { λ n. ⌜ now (words .exit) ≡ pulsed (machine width (now (words .entry)) (now (responses .entry))) panel lines .words ⌝ }
+    ensures { λ n. ⌜ now (responses .exit) ≡ pulsed (machine width (now (words .entry)) (now (responses .entry))) panel lines .responses ⌝ }
+{
+    if lines.write | lines.add {
+        let at = panel.address.0;
+        let word = new_at(width, panel, lines, words[at], responses[at]);
+        let n = sweep(width, panel, lines, words, responses);
+        words[at] = word;
+        n
+    } else {
+        sweep(width, panel, lines, words, responses)
+    }
+}
+
+// "Read gives the word before the pulse." "Read's word is 0 if read isn't raised."
+fn read_word(panel: Panel, lines: Lines, words: &[u64]) -> u64
+    requires { ⌜ (lines .read ≡ true → panel .address .0 < length (now words)) ⌝ }
+    ensures { λ r. ⌜ r ≡ pick (lines .read) (getD (now (words .entry)) (panel .address .0) 0) 0 ⌝ }
+{
+    let at = panel.address.0;
+    if lines.read { words[at] } else { 0 }
+}
+
+// One pulse, or a refusal: what is lent is changed only where nothing is refused.
+pub fn pulse(words: &mut [u64], responses: &mut [Response], width: u32, panel: Panel, lines: Lines) -> Answer
+    ensures { λ r. ⌜ r ≡ answerOf (machine width (now (words .entry)) (now (responses .entry))) panel lines ⌝ }
+    ensures { λ r. ⌜ now (words .exit) ≡ after (machine width (now (words .entry)) (now (responses .entry))) panel lines .words ⌝ }
+    ensures { λ r. ⌜ now (responses .exit) ≡ after (machine width (now (words .entry)) (now (responses .entry))) panel lines .responses ⌝ }
+{
+    let checked = check(words, responses, width, panel, lines);
+    match checked {
+        Check::Passed => {
+            let read = read_word(panel, lines, words);
+            let count = run(width, panel, lines, words, responses);
+            Answer::Done { count, read }
+        }
+        Check::Refused(why) => Answer::Refused(why),
+    }
+}
