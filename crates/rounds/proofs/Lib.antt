@@ -1,0 +1,3 @@
+-- laws of the round
+pub mod Marks
+pub mod Passing
