@@ -1,3 +1,5 @@
 -- laws of the round
 pub mod Marks
 pub mod Passing
+pub mod Lists
+pub mod Working

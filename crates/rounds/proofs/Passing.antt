@@ -1,7 +1,7 @@
 -- Checks of a round's calls: from the code's branches to the definition, and what is known where they pass.
 -- Assumes nothing.
 use Prim.Native.Nat.{ℕ, zero, suc, _<_}
-use mathlib.Core.Path.{_≡_, refl, sym, ap, _∙_}
+use mathlib.Core.Path.{_≡_, refl, sym, ap, ap₂, _∙_}
 use mathlib.Core.Bool.{Bool, true, false, not, _||_}
 use mathlib.Core.List.{List}
 use native.Mathlib.Omega.{arith}
@@ -57,6 +57,14 @@ fit-by x f h =
 pub bits-fit : (x f : ℕ) (m : Machine) → bitsCheck (badBits x f) m ≡ Passed → Fit x f
 unfolding bitsCheck
 bits-fit x f m h = fit-by x f (not-refused Unfit (badBits x f) (rest-passed (machineCheck m) (refuse Unfit (badBits x f)) h))
+
+-- where an answer's bits are fit, so is show's
+pub show-passes : (x f : ℕ) (m : Machine) → bitsCheck (badBits x f) m ≡ Passed → bitsCheck (noBit x) m ≡ Passed
+unfolding bitsCheck
+show-passes x f m h =
+    let b = not-refused Unfit (badBits x f) (rest-passed (machineCheck m) (refuse Unfit (badBits x f)) h) in
+    ap₂ (λ (c : Check) (t : Bool). c else refuse Unfit t) (first-passed (machineCheck m) (refuse Unfit (badBits x f)) h)
+    (neither-left (noBit x) (noBit f || eqb x f) b)
 
 -- ---- the word is the one shown
 

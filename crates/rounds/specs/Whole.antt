@@ -12,6 +12,8 @@ use Rattle.machine.specs.Machine.{Machine, machine}
 use Rattle.machine.specs.Refusals.{changeBy, numberOf, alsoAnswers}
 use Rattle.rounds.specs.declared.Verdict.{Verdict}
 use Rattle.rounds.specs.declared.Verdict.the-variants.{Done, Faulty}
+use Rattle.rounds.specs.declared.Reply.{Reply}
+use Rattle.rounds.specs.declared.Reply.the-variants as reply
 use Rattle.rounds.specs.declared.Report.{Report}
 use Rattle.rounds.specs.declared.Report.the-variants as report
 use Rattle.rounds.specs.Round.{has, answered, badBits, bitsCheck}
@@ -25,6 +27,10 @@ saysDone vs k = eqb (getD vs k 0) 1
 abbrev pub verdictBy : Bool → Verdict
 verdictBy true = Done
 verdictBy false = Faulty
+
+abbrev pub isTaken : Reply → Bool
+isTaken reply.Taken = true
+isTaken (reply.Refused why) = false
 
 -- ---- every word that has X is answered, and no other
 
