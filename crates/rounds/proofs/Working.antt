@@ -35,23 +35,9 @@ use Rattle.rounds.specs.declared.Report.{Report}
 use Rattle.rounds.specs.declared.Report.the-variants as report
 use Rattle.rounds.specs.Round.{has, shown, put, answered, answeredAt, noBit, badBits, bitsCheck, answerCheck, showOf, replyBy, replyOf, afterAnswer}
 use Rattle.rounds.specs.Whole.{saysDone, verdictBy, isTaken, each, tally, worked, isDone, isFaulty, ended, afterEnded, roundCheck, reportBy, reportOf, afterRound}
-use Rattle.rounds.proofs.Marks.{put-here, put-else}
 use Rattle.rounds.proofs.Passing.{Fit, Accepted, accepted, acceptable, show-passes}
+use Rattle.rounds.proofs.Answering.{lost, same-checks}
 use Rattle.rounds.proofs.Lists.{each-at, each-all, tally-at, tally-all, tally-few}
-
--- ---- one answer
-
--- an answered word has X no more
-pub lost : (x f : ℕ) (v : Verdict) (r : ℕ) → Fit x f → has x (answered x f v r) ≡ false
-lost x f Done r h = ap (λ (b : ℕ). eqb b 1) (put-here x 0 r (omega arith) (h .mark))
-lost x f Faulty r h =
-    ap (λ (b : ℕ). eqb b 1) (put-else f 1 (put x 0 r) x (omega arith) (h .mark) (h .differ) ∙ put-here x 0 r (omega arith) (h .mark))
-
--- the checks look at how many responses there are, and at no response
-pub same-checks : (t : Bool) (n : ℕ) (ws rs qs : List ℕ) → length qs ≡ length rs → bitsCheck t (machine n ws qs) ≡ bitsCheck t (machine n ws rs)
-unfolding bitsCheck machineCheck
-same-checks t n ws rs qs e =
-    ap (λ (k : ℕ). (refuse Size (badSize (length ws) k) else refuse Width (badWidth n) else refuseWord (lowest (tooWide n) 0 ws)) else refuse Unfit t) e
 
 -- ---- one answer in the list
 
