@@ -16,7 +16,8 @@ use Rattle.machine.specs.declared.WordSlice.{WordSlice}
 use Rattle.machine.specs.declared.Found.{Found}
 use Rattle.machine.specs.declared.Found.the-variants.{At, Nothing}
 use Rattle.machine.specs.declared.Check.{Check}
-use Rattle.machine.specs.declared.Check.the-variants.{Passed}
+use Rattle.machine.specs.declared.Check.the-variants.{Passed, Refused}
+use Rattle.machine.specs.declared.Refusal.{Refusal}
 use Rattle.machine.specs.Machine.{Machine, machine, responseBits}
 use Rattle.machine.specs.Refusals.{changeBy}
 use Rattle.rounds.specs.declared.Verdict.{Verdict}
@@ -176,3 +177,18 @@ handed-out {x} {f} {before} {after} {vs} t =
       as-many = w .as-many;
       next = first-lowest x 0 (after .responses) ∙ ap firstOf (w .left);
     }
+
+-- ---- with it: a refused answer changes nothing, and a round whose bits are fit always goes on
+
+pub refused-nothing : (x f : ℕ) (k : WordSlice) (v : Verdict) (m : Machine) (r : Refusal) → answerCheck x f k m ≡ Refused r → afterAnswer x f k v m ≡ m
+unfolding afterAnswer
+refused-nothing x f k v m r h = ap (λ (c : Check). changeBy c (answeredAt x f k v m) m) h
+
+-- the word that show gives is accepted, for either verdict, after any accepted answers
+pub goes-on : {x f : ℕ} {before after : Machine} {vs : List Verdict} → bitsCheck (badBits x f) before ≡ Passed → Answers x f before vs after
+    → (k : WordSlice) → shown x after ≡ At k → answerCheck x f k after ≡ Passed
+goes-on {x} {f} {before} {after} h t k s =
+    let w = run t in
+    acceptable x f k after
+    (same-checks (badBits x f) (after .width) (after .words) (before .responses) (after .responses) (w .as-many)
+    ∙ ap₂ (λ (n : ℕ) (ws : List ℕ). bitsCheck (badBits x f) (machine n ws (before .responses))) (w .width) (w .words) ∙ h) s

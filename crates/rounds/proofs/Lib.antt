@@ -6,3 +6,4 @@ pub mod Lists
 pub mod Working
 pub mod Responders
 pub mod Handout
+pub mod WholeRound

@@ -58,7 +58,7 @@ module _ (x f : ℕ) (vs rs : List ℕ) (i : ℕ) (t : Bool) (h : Fit x f) (l : 
   off = lost x f (verdictBy t) (getD rs i 0) h
 
   -- the end of the round stays what it is
-  answer-whole : each (worked x f vs) 0 (set rs i (stored x f rs i t)) ≡ each (worked x f vs) 0 rs
+  pub answer-whole : each (worked x f vs) 0 (set rs i (stored x f rs i t)) ≡ each (worked x f vs) 0 rs
   answer-whole =
       each-at i (stored x f rs i t) rs (worked x f vs)
       (ap (λ (b : Bool). pick b (answered x f (verdictBy (saysDone vs i)) (stored x f rs i t)) (stored x f rs i t)) off

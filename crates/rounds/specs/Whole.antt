@@ -28,6 +28,9 @@ abbrev pub verdictBy : Bool → Verdict
 verdictBy true = Done
 verdictBy false = Faulty
 
+abbrev pub verdictOf : List ℕ → ℕ → Verdict
+verdictOf vs k = verdictBy (saysDone vs k)
+
 abbrev pub isTaken : Reply → Bool
 isTaken reply.Taken = true
 isTaken (reply.Refused why) = false
@@ -45,7 +48,7 @@ tally test k [] = 0
 tally test k (r ∷ rs) = digit (test k r) + tally test (suc k) rs
 
 abbrev pub worked : ℕ → ℕ → List ℕ → ℕ → ℕ → ℕ
-worked x f vs k r = pick (has x r) (answered x f (verdictBy (saysDone vs k)) r) r
+worked x f vs k r = pick (has x r) (answered x f (verdictOf vs k) r) r
 
 abbrev pub isDone : ℕ → List ℕ → ℕ → ℕ → Bool
 isDone x vs k r = has x r && saysDone vs k
