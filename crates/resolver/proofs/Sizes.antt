@@ -1,7 +1,7 @@
 -- What a machine that passes checks 1 to 3 is known to be: 1 to 1,024 words, and as many responses.
 -- Assumes nothing.
-use Prim.Native.Nat.{ℕ, zero, suc, _≤_, _<_}
-use mathlib.Core.Path.{_≡_, refl, sym, ap, _∙_}
+use Prim.Native.Nat.{ℕ, _≤_}
+use mathlib.Core.Path.{_≡_, refl}
 use mathlib.Core.Bool.{Bool, true, false, not, _||_}
 use native.Mathlib.Omega.{arith}
 use lib.Dec.{ltb, eqb}
@@ -12,7 +12,7 @@ use Rattle.machine.specs.declared.Check.the-variants.{Passed, Refused}
 use Rattle.machine.specs.declared.Refusal.{Refusal}
 use Rattle.machine.specs.declared.Refusal.the-variants.{Size}
 use Rattle.machine.specs.Machine.{Machine}
-use Rattle.machine.specs.Refusals.{badSize, badWidth, machineCheck, _else_, refuse}
+use Rattle.machine.specs.Refusals.{badSize, machineCheck, _else_, refuse}
 
 -- a chain that passes passes each link
 pub first-passed : (c d : Check) → (c else d) ≡ Passed → c ≡ Passed
@@ -51,5 +51,6 @@ sized-by n r h =
 pub sized : (m : Machine) → machineCheck m ≡ Passed → Sized m
 unfolding machineCheck
 sized m h =
-    let s = sized-by (length (m .words)) (length (m .responses)) (not-refused Size _ (first-passed (refuse Size (badSize (length (m .words)) (length (m .responses)))) _ h)) in
+    let s = sized-by (length (m .words)) (length (m .responses))
+    (not-refused Size _ (first-passed (refuse Size (badSize (length (m .words)) (length (m .responses)))) _ h)) in
     record { same = s .0; few = omega arith }

@@ -1,7 +1,7 @@
 -- Numbered lists of responses, with one of them changed: `each` and `tally`.
 -- Assumes nothing.
 use Prim.Native.Nat.{ℕ, zero, suc, _+_, _≤_, _<_}
-use mathlib.Core.Path.{_≡_, refl, sym, ap, ap₂, _∙_}
+use mathlib.Core.Path.{_≡_, refl, ap, ap₂}
 use mathlib.Core.Bool.{Bool, true, false}
 use mathlib.Core.List.{List, [], _∷_}
 use native.Mathlib.Nat.{add-zero}
@@ -43,7 +43,8 @@ tally-set test k zero b (r ∷ rs) h e =
 tally-set test k (suc i) b (r ∷ rs) h e =
     rw (at-behind k i) (omega (arith, tally-set test (suc k) i b rs (omega arith) (rw (at-behind k i) at e)))
 
-pub tally-none : (test : ℕ → ℕ → Bool) (k : ℕ) (rs : List ℕ) → ((i : ℕ) → i < length rs → test (k + i) (getD rs i 0) ≡ false) → tally test k rs ≡ 0
+pub tally-none : (test : ℕ → ℕ → Bool) (k : ℕ) (rs : List ℕ)
+    → ((i : ℕ) → i < length rs → test (k + i) (getD rs i 0) ≡ false) → tally test k rs ≡ 0
 unfolding tally
 tally-none test k [] h = refl
 tally-none test k (r ∷ rs) h =

@@ -1,18 +1,18 @@
 -- One response: bit x as a mask, and what an answer does to each of its bits.
 -- Assumes nothing.
-use Prim.Native.Nat.{ℕ, zero, suc, _+_, _-_, _*_, _/_, _%_, _^_, _≤_, _<_, max, min}
+use Prim.Native.Nat.{ℕ, zero, suc, _+_, _-_, _*_, _/_, _%_, _^_, _<_}
 use mathlib.Core.Path.{_≡_, refl, sym, ap, ap₂, _∙_}
-use mathlib.Core.Bool.{Bool, true, false, _&&_, _||_}
-use mathlib.Core.Logic.{_⊎_, inl, inr, ⊎-elim}
+use mathlib.Core.Bool.{Bool, true, false, _||_}
+use mathlib.Core.Logic.{_⊎_, ⊎-elim}
 use mathlib.Core.List.{List, [], _∷_}
 use native.Mathlib.Nat.{mod-eq-of-lt, pow-suc}
 use native.Mathlib.Omega.{arith}
 use lib.Dec.{eqb}
 use lib.Bits.{bitAnd, bitOr}
 use lib.Pow.{pow-lt, high, low}
-use borrow.Author.Tests.{eq-eqb, ne-eqb, eqb-true, eqb-false}
-use Rattle.laws.specs.Bits.{bit, number, every, pick, digit, under}
-use Rattle.laws.proofs.Digits.{Bit, off, on, tri, div-suc, bit-lt}
+use borrow.Author.Tests.{eq-eqb, ne-eqb}
+use Rattle.laws.specs.Bits.{bit, number, every, pick, digit}
+use Rattle.laws.proofs.Digits.{tri, div-suc, bit-lt}
 use Rattle.laws.proofs.Bits.{digit-at, number-like, number-lt, every-at, every-all, low-bit, bit-none}
 use Rattle.machine.specs.declared.Found.{Found}
 use Rattle.machine.specs.declared.Found.the-variants.{At}
@@ -20,7 +20,6 @@ use Rattle.machine.specs.Machine.{responseBits, selected}
 use Rattle.machine.specs.Resolution.{lowest}
 use Rattle.machine.specs.Search.{marked}
 use Rattle.machine.proofs.Masks.{marked-is}
-use Rattle.rounds.specs.declared.Verdict.{Verdict}
 use Rattle.rounds.specs.declared.Verdict.the-variants.{Done, Faulty}
 use Rattle.rounds.specs.Round.{has, put, answered}
 
@@ -68,6 +67,7 @@ every-one k x f h g = go (f x) (every k f) refl refl
   where
     at : f x ≡ true → (i : ℕ) → i < k → f i ≡ true
     at e i l = ⊎-elim (λ u. g i (λ z. absurd (omega arith))) (⊎-elim (λ z. ap f z ∙ e) (λ u. g i (λ z. absurd (omega arith)))) (tri i x)
+
     go : (a b : Bool) → f x ≡ a → every k f ≡ b → b ≡ a
     go true b e d = sym d ∙ every-all k f (at e)
     go false true e d = sym (every-at k f d x h) ∙ e
@@ -97,6 +97,7 @@ mask-test x i =
   where
     here : i ≡ x → eqb (bit (2 ^ x) i) 1 ≡ eqb i x
     here z = ap (λ (y : ℕ). eqb (bit (2 ^ x) y) 1) z ∙ ap (λ (b : ℕ). eqb b 1) (mask-here x) ∙ sym (eq-eqb i x z)
+
     else : (i ≡ x → ⊥) → eqb (bit (2 ^ x) i) 1 ≡ eqb i x
     else z = ap (λ (b : ℕ). eqb b 1) (mask-else x i z) ∙ sym (ne-eqb i x z)
 

@@ -1,15 +1,14 @@
 -- The list of responders: its first is the lowest, an answer takes the first off, and each is counted once in a round.
 -- Assumes nothing.
-use Prim.Native.Nat.{ℕ, zero, suc, _+_, _≤_, _<_}
-use mathlib.Core.Path.{_≡_, refl, sym, ap, ap₂, _∙_}
+use Prim.Native.Nat.{ℕ, zero, suc, _+_, _<_}
+use mathlib.Core.Path.{_≡_, refl, ap, _∙_}
 use mathlib.Core.Bool.{Bool, true, false, not, _&&_}
 use mathlib.Core.List.{List, [], _∷_}
 use native.Mathlib.Omega.{arith}
 use lib.ListN.{length, getD, drop, set}
 use Rattle.laws.specs.Bits.{pick, digit}
 use Rattle.machine.specs.declared.WordSlice.{WordSlice}
-use Rattle.machine.specs.declared.Found.{Found}
-use Rattle.machine.specs.declared.Found.the-variants.{At, Nothing}
+use Rattle.machine.specs.declared.Found.the-variants.{At}
 use Rattle.machine.specs.Resolution.{lowest}
 use Rattle.resolver.proofs.Lowest.{LowestAt}
 use Rattle.rounds.specs.Round.{has}

@@ -1,29 +1,25 @@
 -- Document 01, 'The hand-out round': the end that a whole round's contract states is reached by accepted answers, one for each responder,
 -- the lowest first, each with its verdict in the list. So all that holds of accepted answers (Handout) holds of a whole round.
 -- Assumes nothing.
-use Prim.Native.Nat.{ℕ, zero, suc, _+_}
+use Prim.Native.Nat.{ℕ, _+_}
 use mathlib.Core.Path.{_≡_, refl, sym, ap, _∙_}
-use mathlib.Core.Bool.{Bool, true, false}
-use mathlib.Core.List.{List, [], _∷_, _++_, map}
-use native.Mathlib.Omega.{arith}
-use lib.ListN.{length, getD, drop, set, length-set}
+use mathlib.Core.Bool.{Bool}
+use mathlib.Core.List.{List, [], _∷_, map}
+use lib.ListN.{length, getD, drop, length-set}
 use Rattle.laws.specs.Bits.{pick}
 use Rattle.machine.specs.declared.WordSlice.{WordSlice}
-use Rattle.machine.specs.declared.Found.the-variants.{At, Nothing}
 use Rattle.machine.specs.declared.Check.{Check}
 use Rattle.machine.specs.declared.Check.the-variants.{Passed}
 use Rattle.machine.specs.Machine.{Machine, machine}
 use Rattle.machine.specs.Refusals.{changeBy}
 use Rattle.resolver.proofs.Lowest.{none-exactly}
 use Rattle.rounds.specs.declared.Verdict.{Verdict}
-use Rattle.rounds.specs.declared.Report.the-variants.{Ended}
-use Rattle.rounds.specs.Round.{has, shown, answered, answeredAt, badBits, bitsCheck, answerCheck, afterAnswer}
-use Rattle.rounds.specs.Whole.{saysDone, verdictOf, each, tally, worked, isDone, isFaulty, roundCheck, ended, afterEnded}
-use Rattle.rounds.specs.Handout.{numbersWith, responders, firstOf, Answers, none-yet, one-more}
+use Rattle.rounds.specs.Round.{has, shown, answered, answeredAt, badBits, answerCheck, afterAnswer}
+use Rattle.rounds.specs.Whole.{saysDone, verdictOf, tally, worked, isDone, isFaulty, roundCheck, afterEnded}
+use Rattle.rounds.specs.Handout.{responders, firstOf, Answers, none-yet, one-more}
 use Rattle.rounds.proofs.Passing.{accepted, acceptable}
-use Rattle.rounds.proofs.Answering.{lost, same-checks}
+use Rattle.rounds.proofs.Answering.{lost, same-checks, answer-whole}
 use Rattle.rounds.proofs.Lists.{each-all}
-use Rattle.rounds.proofs.Working.{stored, answer-whole}
 use Rattle.rounds.proofs.Responders.{first-lowest, first-off, each-once}
 
 -- an answer before the others
@@ -39,7 +35,8 @@ module _ (x f : ℕ) (vs : List ℕ) where
   at-end n h =
       let none = none-exactly (has x) (n .responses) .0 (first-lowest x 0 (n .responses) ∙ ap firstOf h) in
       ap (machine (n .width) (n .words))
-      (each-all (n .responses) (worked x f vs) (λ i l. ap (λ (b : Bool). pick b (answered x f (verdictOf vs i) (getD (n .responses) i 0)) (getD (n .responses) i 0)) (none i l)))
+      (each-all (n .responses) (worked x f vs)
+      (λ i l. ap (λ (b : Bool). pick b (answered x f (verdictOf vs i) (getD (n .responses) i 0)) (getD (n .responses) i 0)) (none i l)))
 
   -- the lowest responder is answered: one less is left, the checks stand, and so does the round's end
   module _ (n : Machine) (k : ℕ) (ks : List ℕ) (h : responders x n ≡ k ∷ ks) (p : roundCheck x f n ≡ Passed) where

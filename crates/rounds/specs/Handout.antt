@@ -1,6 +1,6 @@
 -- Document 01, 'The hand-out round': the words that a round is to show, and accepted answers one after another.
 -- Assumes nothing.
-use Prim.Native.Nat.{ℕ, zero, suc}
+use Prim.Native.Nat.{ℕ, suc, _<_}
 use mathlib.Core.Path.{_≡_}
 use mathlib.Core.List.{List, [], _∷_, _++_}
 use lib.ListN.{getD}
@@ -25,6 +25,10 @@ responders x m = numbersWith x 0 (m .responses)
 -- responder i, counted from 0
 abbrev pub responder : ℕ → Machine → ℕ → ℕ
 responder x m i = getD (responders x m) i 0
+
+-- word j is none of the first n of a list of words
+abbrev pub NotAmong : List ℕ → ℕ → ℕ → Type 0
+NotAmong ks n j = (i : ℕ) → i < n → getD ks i 0 ≡ j → ⊥
 
 -- word j's response
 abbrev pub response : Machine → ℕ → ℕ

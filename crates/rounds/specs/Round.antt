@@ -1,8 +1,7 @@
 -- Document 01, 'The hand-out round': show and answer.
 -- Assumes nothing.
 use Prim.Native.Nat.{ℕ}
-use mathlib.Core.Bool.{Bool, true, false, not, _||_}
-use mathlib.Core.List.{List, [], _∷_}
+use mathlib.Core.Bool.{Bool, true, not, _||_}
 use lib.Dec.{leb, eqb}
 use lib.ListN.{getD, set}
 use Rattle.laws.specs.Bits.{bit, number, pick}

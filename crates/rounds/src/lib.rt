@@ -1,10 +1,15 @@
 // Document 01, 'The hand-out round': show, answer, and the host's loop that works a whole round.
 // None of them looks at a held job. Show changes nothing; an answer changes one word's X and, if faulty, its F.
-use machine::{Check, Found, Refusal, Response, WordSlice};
+use machine::Check;
+use machine::Found;
+use machine::Refusal;
+use machine::Response;
+use machine::WordSlice;
 use resolver::Resolved;
 ghost use mathlib.Core.Path.{_≡_};
-ghost use Prim.Native.Nat.{_<_};
+ghost use Prim.Native.Nat.{_≤_, _<_};
 ghost use lib.ListN.{length, set};
+ghost use Rattle.laws.specs.Bits.{digit};
 ghost use Rattle.machine.specs.declared.Check.the-variants.{Passed};
 ghost use Rattle.machine.specs.Machine.{machine, responseBits};
 ghost use Rattle.machine.specs.Resolution.{lowest};
@@ -81,7 +86,14 @@ fn lowest_with(responses: &[Response], x: u32) -> Found
     resolver::lowest_selected(responses, mark, mark)
 }
 
-fn check_answer(words: &[u64], responses: &[Response], width: u32, x: u32, f: u32, word: WordSlice) -> Check
+fn check_answer(
+    words: &[u64],
+    responses: &[Response],
+    width: u32,
+    x: u32,
+    f: u32,
+    word: WordSlice,
+) -> Check
     ensures { λ r. ⌜ r ≡ answerCheck x f word (machine width (now (words .entry)) (now (responses .entry))) ⌝ }
 {
     let check = check_bits(words, responses, width, bad_bits(x, f));
@@ -131,7 +143,15 @@ fn put(responses: &mut [Response], at: usize, response: Response)
     responses[at] = response;
 }
 
-pub fn answer(words: &[u64], responses: &mut [Response], width: u32, x: u32, f: u32, word: WordSlice, verdict: Verdict) -> Reply
+pub fn answer(
+    words: &[u64],
+    responses: &mut [Response],
+    width: u32,
+    x: u32,
+    f: u32,
+    word: WordSlice,
+    verdict: Verdict,
+) -> Reply
     ensures { λ r. ⌜ r ≡ replyOf x f word (machine width (now (words .entry)) (now (responses .entry))) ⌝ }
     ensures { λ _. ⌜ now (responses .exit) ≡ afterAnswer x f word verdict (machine width (now (words .entry)) (now (responses .entry))) .responses ⌝ }
 {
@@ -164,21 +184,33 @@ fn says_done(verdicts: &[u8], word: WordSlice) -> bool
 fn verdict_by(done: bool) -> Verdict
     ensures { λ r. ⌜ r ≡ verdictBy done ⌝ }
 {
-    if done {
-        Verdict::Done
-    } else {
-        Verdict::Faulty
-    }
+    if done { Verdict::Done } else { Verdict::Faulty }
 }
 
 fn is_taken(reply: Reply) -> bool
     ensures { λ r. ⌜ r ≡ isTaken reply ⌝ }
 {
-    if let Reply::Taken = reply { true } else { false }
+    match reply {
+        Reply::Taken => true,
+        Reply::Refused(_) => false,
+    }
+}
+
+fn one_if(test: bool) -> usize
+    ensures { λ r. ⌜ (r ≡ digit test) × (r ≤ 1) ⌝ }
+{
+    if test { 1 } else { 0 }
 }
 
 // "The answer none ends the round." No answer is turned down, since each is for the word just shown.
-fn work(words: &[u64], responses: &mut [Response], width: u32, x: u32, f: u32, verdicts: &[u8]) -> Report
+fn work(
+    words: &[u64],
+    responses: &mut [Response],
+    width: u32,
+    x: u32,
+    f: u32,
+    verdicts: &[u8],
+) -> Report
     requires { ⌜ roundCheck x f (machine width (now words) (now responses)) ≡ Passed ⌝ }
     ensures { λ r. ⌜ r ≡ ended x (now (verdicts .entry)) (machine width (now (words .entry)) (now (responses .entry))) ⌝ }
     ensures { λ _. ⌜ now (responses .exit) ≡ afterEnded x f (now (verdicts .entry)) (machine width (now (words .entry)) (now (responses .entry))) .responses ⌝ }
@@ -192,17 +224,21 @@ fn work(words: &[u64], responses: &mut [Response], width: u32, x: u32, f: u32, v
         };
         let sound = says_done(verdicts, word);
         taken = is_taken(answer(words, responses, width, x, f, word, verdict_by(sound)));
-        if sound {
-            done += 1;
-        } else {
-            faulty += 1;
-        }
+        done += one_if(sound);
+        faulty += one_if(!sound);
     }
     Report::Ended { done, faulty }
 }
 
 // A whole round on lent buffers. Only the words that have X are answered, each once, the lowest first.
-pub fn round(words: &[u64], responses: &mut [Response], width: u32, x: u32, f: u32, verdicts: &[u8]) -> Report
+pub fn round(
+    words: &[u64],
+    responses: &mut [Response],
+    width: u32,
+    x: u32,
+    f: u32,
+    verdicts: &[u8],
+) -> Report
     ensures { λ r. ⌜ r ≡ reportOf x f (now (verdicts .entry)) (machine width (now (words .entry)) (now (responses .entry))) ⌝ }
     ensures { λ _. ⌜ now (responses .exit) ≡ afterRound x f (now (verdicts .entry)) (machine width (now (words .entry)) (now (responses .entry))) .responses ⌝ }
 {

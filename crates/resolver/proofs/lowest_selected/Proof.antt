@@ -1,4 +1,5 @@
 -- Invariant: what was found below i, merged with the lowest from i on, is the lowest of all. Measure: the words not yet asked.
+-- Assumes nothing.
 use Prim.Native.Nat.{_+_, _≤_, _-_}
 use mathlib.Core.Path.{_≡_, refl, sym, ap, _∙_}
 use lib.ListN.{length, drop}
@@ -46,7 +47,8 @@ loop-again c =
     let test = selected (a .key) (a .care) in (
       search needs,
       ap (λ (f : Found). lowerOf f (lowest test (l .loop .i + 1) (drop (l .loop .i + 1) (a .responses .now)))) (c .merge .ensures)
-          ∙ scan-step test (a .responses .now) (l .loop .found) (c .before .one-word .result) (l .loop .i) (search needs) (c .before .one-word .ensures ∙ ap (λ t. alone t (l .loop .i)) (c .before .before .is-selected .ensures))
+          ∙ scan-step test (a .responses .now) (l .loop .found) (c .before .one-word .result) (l .loop .i) (search needs)
+          (c .before .one-word .ensures ∙ ap (λ t. alone t (l .loop .i)) (c .before .before .is-selected .ensures))
           ∙ l .loop .inv .1,
     )
 

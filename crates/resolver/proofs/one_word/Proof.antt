@@ -1,5 +1,5 @@
-use mathlib.Core.Path.{refl}
-use Rattle.resolver.specs.Merging.{alone}
+-- A selected word answers its own number.
+-- Assumes nothing.
 use Rattle.resolver.proofs.one_word.Statement.{statement}
 use Rattle.resolver.proofs.one_word.Tie as tie
 

@@ -1,3 +1,5 @@
+-- The checks, then the scan from word 0.
+-- Assumes nothing.
 use borrow.Author.Needs.{needs}
 use Rattle.machine.specs.Machine.{machine}
 use Rattle.resolver.proofs.Answers.{resolution-refused, resolution-found}

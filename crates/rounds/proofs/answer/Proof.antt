@@ -1,3 +1,5 @@
+-- The checks; then the one word that passes them is within the buffer, and its response is stored.
+-- Assumes nothing.
 use borrow.Author.Needs.{needs}
 use Rattle.machine.specs.Machine.{machine}
 use Rattle.rounds.proofs.Passing.{accepted-by, answer-refused, answer-taken}
@@ -53,7 +55,8 @@ returns-2 c =
     let b = c .before .before .before .before .before .before .before .before in
     let a = b .before .before .before .before .args in
     let m = machine (a .width) (a .words .now) (a .responses .now) in
-    answer-taken (a .x) (a .f) (a .word) (a .verdict) m (b .check-answer .result) (b .check-answer .ensures) (c .before .before .before .before .judged .result) (c .before .before .put .last .0)
+    answer-taken (a .x) (a .f) (a .word) (a .verdict) m (b .check-answer .result) (b .check-answer .ensures)
+    (c .before .before .before .before .judged .result) (c .before .before .put .last .0)
     (c .before .before .before .before .before .before .enum-told .given .1) (c .before .before .before .before .judged .ensures) (c .before .before .put .ensures)
 
 pub answer-spec : {M : Type 1} → statement M

@@ -1,3 +1,5 @@
+-- 1 to 3 and 8, then 11: the word is compared with the one that show would give now.
+-- Assumes nothing.
 use mathlib.Core.Path.{ap, sym, _∙_}
 use borrow.Author.Needs.{needs}
 use Rattle.machine.specs.declared.Refusal.the-variants.{NotShown}
@@ -46,7 +48,8 @@ returns-2 c =
     let a = b .before .before .before .before .args in
     let m = machine (a .width) (a .words .now) (a .responses .now) in
     let h = by-test (b .check-bits .result) (b .before .bad-bits .result) (badBits (a .x) (a .f)) m (b .check-bits .ensures) (b .before .bad-bits .ensures) in
-    refused-last (b .check-bits .result) (bitsCheck (badBits (a .x) (a .f)) m) NotShown (otherThan (a .word) (shown (a .x) m)) h (c .before .before .before .enum-told .given .1)
+    refused-last (b .check-bits .result) (bitsCheck (badBits (a .x) (a .f)) m) NotShown (otherThan (a .word) (shown (a .x) m)) h
+    (c .before .before .before .enum-told .given .1)
     (sym (c .before .other-than .ensures ∙ ap (otherThan (a .word)) (c .before .before .lowest-with .ensures)) ∙ c .if1 .taken)
 
 returns-3 : tie.Need-returns-3
@@ -56,7 +59,8 @@ returns-3 c =
     let a = b .before .before .before .before .args in
     let m = machine (a .width) (a .words .now) (a .responses .now) in
     let h = by-test (b .check-bits .result) (b .before .bad-bits .result) (badBits (a .x) (a .f)) m (b .check-bits .ensures) (b .before .bad-bits .ensures) in
-    passed (b .check-bits .result) (bitsCheck (badBits (a .x) (a .f)) m) NotShown (otherThan (a .word) (shown (a .x) m)) h (c .before .before .before .enum-told .given .1)
+    passed (b .check-bits .result) (bitsCheck (badBits (a .x) (a .f)) m) NotShown (otherThan (a .word) (shown (a .x) m)) h
+    (c .before .before .before .enum-told .given .1)
     (sym (c .before .other-than .ensures ∙ ap (otherThan (a .word)) (c .before .before .lowest-with .ensures)) ∙ c .if1 .left)
 
 pub check-answer-spec : {M : Type 1} → statement M

@@ -1,3 +1,5 @@
+-- 1 to 3, then 8.
+-- Assumes nothing.
 use borrow.Author.Needs.{needs}
 use Rattle.machine.specs.Machine.{machine}
 use Rattle.machine.specs.Refusals.{machineCheck}
@@ -21,21 +23,24 @@ unfolding bitsCheck
 returns c =
     let m = c .before .before .before in
     let a = m .before .before .before .args in
-    refused-first (m .check-machine .result) (machineCheck (machine (a .width) (a .words .now) (a .responses .now))) Unfit (a .unfit) (m .check-machine .ensures) _ (c .before .check .given .1)
+    let e = machineCheck (machine (a .width) (a .words .now) (a .responses .now)) in
+    refused-first (m .check-machine .result) e Unfit (a .unfit) (m .check-machine .ensures) _ (c .before .check .given .1)
 
 returns-2 : tie.Need-returns-2
 unfolding bitsCheck
 returns-2 c =
     let m = c .before .before .before in
     let a = m .before .before .before .args in
-    refused-last (m .check-machine .result) (machineCheck (machine (a .width) (a .words .now) (a .responses .now))) Unfit (a .unfit) (m .check-machine .ensures) (c .before .enum-told .given .1) (c .if1 .taken)
+    let e = machineCheck (machine (a .width) (a .words .now) (a .responses .now)) in
+    refused-last (m .check-machine .result) e Unfit (a .unfit) (m .check-machine .ensures) (c .before .enum-told .given .1) (c .if1 .taken)
 
 returns-3 : tie.Need-returns-3
 unfolding bitsCheck
 returns-3 c =
     let m = c .before .before .before in
     let a = m .before .before .before .args in
-    passed (m .check-machine .result) (machineCheck (machine (a .width) (a .words .now) (a .responses .now))) Unfit (a .unfit) (m .check-machine .ensures) (c .before .enum-told .given .1) (c .if1 .left)
+    let e = machineCheck (machine (a .width) (a .words .now) (a .responses .now)) in
+    passed (m .check-machine .result) e Unfit (a .unfit) (m .check-machine .ensures) (c .before .enum-told .given .1) (c .if1 .left)
 
 pub check-bits-spec : {M : Type 1} → statement M
 check-bits-spec =

@@ -1,9 +1,10 @@
+-- The checks, then the loop.
+-- Assumes nothing.
 use mathlib.Core.Path.{sym, _∙_}
 use borrow.Author.Needs.{needs}
 use Rattle.machine.specs.Machine.{machine}
 use Rattle.rounds.specs.Round.{badBits}
-use Rattle.rounds.proofs.Passing.{by-test}
-use Rattle.rounds.proofs.Working.{round-refused, round-ended}
+use Rattle.rounds.proofs.Passing.{by-test, round-refused, round-ended}
 use Rattle.rounds.proofs.round.Statement.{statement}
 use Rattle.rounds.proofs.round.Tie as tie
 

@@ -1,3 +1,5 @@
+-- A list that is too short says nothing, which is not done.
+-- Assumes nothing.
 use Prim.Native.Nat.{ℕ}
 use mathlib.Core.Path.{ap, sym}
 use lib.Dec.{eqb}
@@ -5,8 +7,6 @@ use lib.ListN.{List·getD-eq-default}
 use borrow.Author.Needs.{needs}
 use Rattle.rounds.proofs.says_done.Statement.{statement}
 use Rattle.rounds.proofs.says_done.Tie as tie
-use Rattle.rounds.proofs.says_done.Reads as reads
-use Rattle.rounds.proofs.says_done.Lts as lts
 
 -- src/lib.rt:158:9
 shared-slice-read-result : tie.Need-shared-slice-read-result

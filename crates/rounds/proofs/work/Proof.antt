@@ -5,11 +5,9 @@ use mathlib.Core.Path.{_≡_, refl}
 use mathlib.Core.Bool.{true}
 use native.Mathlib.Omega.{arith}
 use borrow.Author.Needs.{needs}
-use Rattle.rounds.proofs.Working.{Working, left, start, few, over, again, turn-falls, turn-done, turn-faulty}
+use Rattle.rounds.proofs.Working.{Working, left, start, few, over, turn}
 use Rattle.rounds.proofs.work.Statement.{statement}
 use Rattle.rounds.proofs.work.Tie as tie
-use Rattle.rounds.proofs.work.Reads as reads
-use Rattle.rounds.proofs.work.Lts as lts
 
 abbrev Inv-loop : tie.InvT-loop
 Inv-loop words responses₀ width x f verdicts done₀ faulty₀ taken₀ responses done faulty taken =
@@ -19,7 +17,7 @@ abbrev μ-loop : tie.MeasureT-loop
 μ-loop words responses₀ width x f verdicts done₀ faulty₀ taken₀ responses done faulty taken = left x verdicts responses
 
 loop-holds : tie.Need-loop-holds Inv-loop μ-loop
-loop-holds c = 
+loop-holds c =
     let a = c .before .before .before .args in
     (start (a .x) (a .f) (a .verdicts .now) (a .width) (a .words .now) (a .responses .now) (c .before .before .before .pre), refl)
 
@@ -33,11 +31,8 @@ same-length : tie.Need-same-length Inv-loop μ-loop
 same-length c = search needs
 
 returns : tie.Need-returns Inv-loop μ-loop
-returns c = 
-    let l = c .before .before .before .before in
-    let a = l .before .before .before .before .args in
-    over (a .x) (a .f) (a .verdicts .now) (a .width) (a .words .now) (a .responses .now) (l .loop .responses) (l .loop .done) (l .loop .faulty) (l .loop .inv .0)
-    (c .before .show .result) (c .before .show .ensures) (c .match .keys2)
+returns c =
+    over (c .before .before .before .before .loop .inv .0) (c .before .show .ensures) (c .match .keys2)
 
 says-done-requires : tie.Need-says-done-requires Inv-loop μ-loop
 says-done-requires c κs = search needs
@@ -51,87 +46,45 @@ answer-requires c κs = search needs
 is-taken-requires : tie.Need-is-taken-requires Inv-loop μ-loop
 is-taken-requires c κs = search needs
 
+one-if-requires : tie.Need-one-if-requires Inv-loop μ-loop
+one-if-requires c κs = search needs
+
 add-done : tie.Need-add-done Inv-loop μ-loop
-add-done c = 
-    let l = c .before .before .before .before .before .before .before .before .before .before .before .before .before .before in
-    let a = l .before .before .before .before .args in
-    omega (arith, few (a .x) (a .f) (a .verdicts .now) (a .width) (a .words .now) (a .responses .now) (l .loop .responses) (l .loop .done) (l .loop .faulty) (l .loop .inv .0) .0)
+add-done c =
+    omega (arith, few (c .before .before .before .before .before .before .before .before .before .before .before .before .before .before .loop .inv .0) .0, c .one-if .ensures .1)
 
-loop-less : tie.Need-loop-less Inv-loop μ-loop
-loop-less c = 
-    let r = c .before .before .before .before in
-    let v = r .before in
-    let d = v .before .before in
-    let s2 = d .before .before in
-    let s = s2 .before .before in
-    let l = s .before .before .before in
-    let a = l .before .before .before .before .args in
-    turn-falls (a .x) (a .f) (a .verdicts .now) (a .width) (a .words .now) (a .responses .now) (l .loop .responses) (l .loop .done) (l .loop .faulty) (l .loop .inv .0)
-    _ (s .show .result) (s .show .ensures) (s2 .word .given .1)
-    (d .says-done .result) (v .verdict-by .result) (r .answer .result) (r .answer .last .1 .0) (c .before .is-taken .result)
-    (d .says-done .ensures) (v .verdict-by .ensures) (r .answer .ensures .0) (r .answer .ensures .1) (c .before .is-taken .ensures)
-
-loop-again : tie.Need-loop-again Inv-loop μ-loop
-loop-again c = 
-    let r = c .before .before .before .before in
-    let v = r .before in
-    let d = v .before .before in
-    let s2 = d .before .before in
-    let s = s2 .before .before in
-    let l = s .before .before .before in
-    let a = l .before .before .before .before .args in
-    (turn-done (a .x) (a .f) (a .verdicts .now) (a .width) (a .words .now) (a .responses .now) (l .loop .responses) (l .loop .done) (l .loop .faulty) (l .loop .inv .0)
-    _ (s .show .result) (s .show .ensures) (s2 .word .given .1)
-    (d .says-done .result) (v .verdict-by .result) (r .answer .result) (r .answer .last .1 .0) (c .before .is-taken .result)
-    (d .says-done .ensures) (v .verdict-by .ensures) (r .answer .ensures .0) (r .answer .ensures .1) (c .before .is-taken .ensures) (c .if1 .taken),
-    again (a .x) (a .f) (a .verdicts .now) (a .width) (a .words .now) (a .responses .now) (l .loop .responses) (l .loop .done) (l .loop .faulty) (l .loop .inv .0)
-    _ (s .show .result) (s .show .ensures) (s2 .word .given .1)
-    (d .says-done .result) (v .verdict-by .result) (r .answer .result) (r .answer .last .1 .0) (c .before .is-taken .result)
-    (d .says-done .ensures) (v .verdict-by .ensures) (r .answer .ensures .0) (r .answer .ensures .1) (c .before .is-taken .ensures))
+one-if-requires-2 : tie.Need-one-if-requires-2 Inv-loop μ-loop
+one-if-requires-2 c κs = search needs
 
 add-faulty : tie.Need-add-faulty Inv-loop μ-loop
-add-faulty c = 
-    let l = c .before .before .before .before .before .before .before .before .before .before .before .before .before .before in
-    let a = l .before .before .before .before .args in
-    omega (arith, few (a .x) (a .f) (a .verdicts .now) (a .width) (a .words .now) (a .responses .now) (l .loop .responses) (l .loop .done) (l .loop .faulty) (l .loop .inv .0) .1)
+add-faulty c =
+    omega (arith, few (c .before .before .before .before .before .before .before .before .before .before .before .before .before .before .before .loop .inv .0) .1, c .one-if2 .ensures .1)
 
-loop-less-2 : tie.Need-loop-less-2 Inv-loop μ-loop
-loop-less-2 c = 
-    let r = c .before .before .before .before in
-    let v = r .before in
-    let d = v .before .before in
-    let s2 = d .before .before in
-    let s = s2 .before .before in
-    let l = s .before .before .before in
-    let a = l .before .before .before .before .args in
-    turn-falls (a .x) (a .f) (a .verdicts .now) (a .width) (a .words .now) (a .responses .now) (l .loop .responses) (l .loop .done) (l .loop .faulty) (l .loop .inv .0)
-    _ (s .show .result) (s .show .ensures) (s2 .word .given .1)
-    (d .says-done .result) (v .verdict-by .result) (r .answer .result) (r .answer .last .1 .0) (c .before .is-taken .result)
-    (d .says-done .ensures) (v .verdict-by .ensures) (r .answer .ensures .0) (r .answer .ensures .1) (c .before .is-taken .ensures)
+loop-less : tie.Need-loop-less Inv-loop μ-loop
+loop-less c =
+    let r = c .before .before .before .before .before in
+    let s = r .before .before .before in
+    let w = s .before .before in
+    let t = turn (w .before .before .before .before .before .loop .inv .0) (w .before .before .show .ensures) (w .word .given .1)
+    (s .says-done .ensures) (r .before .verdict-by .ensures) (r .answer .ensures .0) (r .answer .ensures .1) (c .before .before .is-taken .ensures)
+    (c .before .one-if .ensures .0) (c .one-if2 .ensures .0) in
+    t .falls
 
-loop-again-2 : tie.Need-loop-again-2 Inv-loop μ-loop
-loop-again-2 c = 
-    let r = c .before .before .before .before in
-    let v = r .before in
-    let d = v .before .before in
-    let s2 = d .before .before in
-    let s = s2 .before .before in
-    let l = s .before .before .before in
-    let a = l .before .before .before .before .args in
-    (turn-faulty (a .x) (a .f) (a .verdicts .now) (a .width) (a .words .now) (a .responses .now) (l .loop .responses) (l .loop .done) (l .loop .faulty) (l .loop .inv .0)
-    _ (s .show .result) (s .show .ensures) (s2 .word .given .1)
-    (d .says-done .result) (v .verdict-by .result) (r .answer .result) (r .answer .last .1 .0) (c .before .is-taken .result)
-    (d .says-done .ensures) (v .verdict-by .ensures) (r .answer .ensures .0) (r .answer .ensures .1) (c .before .is-taken .ensures) (c .if1 .left),
-    again (a .x) (a .f) (a .verdicts .now) (a .width) (a .words .now) (a .responses .now) (l .loop .responses) (l .loop .done) (l .loop .faulty) (l .loop .inv .0)
-    _ (s .show .result) (s .show .ensures) (s2 .word .given .1)
-    (d .says-done .result) (v .verdict-by .result) (r .answer .result) (r .answer .last .1 .0) (c .before .is-taken .result)
-    (d .says-done .ensures) (v .verdict-by .ensures) (r .answer .ensures .0) (r .answer .ensures .1) (c .before .is-taken .ensures))
+loop-again : tie.Need-loop-again Inv-loop μ-loop
+loop-again c =
+    let r = c .before .before .before .before .before in
+    let s = r .before .before .before in
+    let w = s .before .before in
+    let t = turn (w .before .before .before .before .before .loop .inv .0) (w .before .before .show .ensures) (w .word .given .1)
+    (s .says-done .ensures) (r .before .verdict-by .ensures) (r .answer .ensures .0) (r .answer .ensures .1) (c .before .before .is-taken .ensures)
+    (c .before .one-if .ensures .0) (c .one-if2 .ensures .0) in
+    (t .next, t .again)
 
 same-length-2 : tie.Need-same-length-2 Inv-loop μ-loop
 same-length-2 c = c .before .loop .inv .0 .same
 
 returns-2 : tie.Need-returns-2 Inv-loop μ-loop
-returns-2 c = 
+returns-2 c =
     let z : _≡_ {A = ℕ} 0 1 = cc (c .before .loop .inv .1, c .loop-test .left) in absurd (omega arith)
 
 pub work-spec : {M : Type 1} → statement M
@@ -149,11 +102,11 @@ work-spec =
     verdict-by-requires
     answer-requires
     is-taken-requires
+    one-if-requires
     add-done
+    one-if-requires-2
+    add-faulty
     loop-less
     loop-again
-    add-faulty
-    loop-less-2
-    loop-again-2
     same-length-2
     returns-2)
