@@ -1,0 +1,39 @@
+-- Document 01, 'One pulse', Resolution, and 'Numbers given when a call is turned down': what resolving answers.
+-- Assumes nothing.
+use Prim.Native.Nat.{ℕ}
+use Rattle.machine.specs.declared.Found.{Found}
+use Rattle.machine.specs.declared.Found.the-variants as found
+use Rattle.machine.specs.declared.Check.{Check}
+use Rattle.machine.specs.declared.Check.the-variants as check
+use Rattle.machine.specs.Machine.{Machine}
+use Rattle.machine.specs.Resolution.{resolved}
+use Rattle.machine.specs.Refusals.{machineCheck, numberOf, alsoAnswers}
+use Rattle.resolver.specs.declared.Resolved.{Resolved}
+use Rattle.resolver.specs.declared.Resolved.the-variants.{At, Nothing, Refused}
+
+abbrev pub asResolved : Found → Resolved
+asResolved (found.At k) = At k
+asResolved found.Nothing = Nothing
+
+-- the refusal that the checks found, else what was found
+abbrev pub answerBy : Check → Found → Resolved
+answerBy (check.Refused r) f = Refused r
+answerBy check.Passed f = asResolved f
+
+-- "The lowest-numbered selected word, or none exactly if no word is selected."; "resolution for 1 to 3"
+unfoldable pub resolution : ℕ → ℕ → Machine → Resolved
+resolution key care m = answerBy (machineCheck m) (resolved key care m)
+
+-- ---- each answer's number and values; "other answer fields are 0"
+
+-- the refusal's number, 0 for none, and what it also answers; 1 if a word was found, and its number
+pub record Told : Type 0 where
+  pub refusal : ℕ
+  pub also : ℕ
+  pub found : ℕ
+  pub word : ℕ
+
+abbrev pub told : Resolved → Told
+told (At k) = record { refusal = 0; also = 0; found = 1; word = k .0 }
+told Nothing = record { refusal = 0; also = 0; found = 0; word = 0 }
+told (Refused r) = record { refusal = numberOf r; also = alsoAnswers r; found = 0; word = 0 }
