@@ -1,0 +1,2 @@
+-- one law for both entry points
+pub mod Passed

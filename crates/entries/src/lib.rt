@@ -1,0 +1,129 @@
+// Entry points for programs in other languages: both machines' pulses by numbers and lent buffers. The benchmark calls them.
+use machine::Answer;
+use machine::Lines;
+use machine::Panel;
+use machine::Refusal;
+use machine::WordSlice;
+ghost use mathlib.Core.Path.{_≡_};
+ghost use Prim.Native.Nat.{_≤_, _<_};
+ghost use lib.Dec.{eqb};
+ghost use Rattle.laws.specs.Bits.{bit};
+ghost use Rattle.machine.specs.Machine.{machine};
+ghost use Rattle.machine.specs.Refusals.{numberOf, answerOf, after};
+ghost use Rattle.entries.specs.Numbers.{panelOf, raised, linesOf, resultOf};
+
+fn is_raised(lines: u8, i: u32) -> bool
+    requires { ⌜ i < 8 ⌝ }
+    ensures { λ r. ⌜ r ≡ raised lines i ⌝ }
+{
+    (lines >> i) % 2 == 1
+}
+
+fn lines_of(lines: u8) -> Lines
+    ensures { λ r. ⌜ r ≡ linesOf lines ⌝ }
+{
+    Lines {
+        search: is_raised(lines, 0),
+        read: is_raised(lines, 1),
+        write: is_raised(lines, 2),
+        add: is_raised(lines, 3),
+        multiwrite: is_raised(lines, 4),
+        multiadd: is_raised(lines, 5),
+        complement: is_raised(lines, 6),
+    }
+}
+
+fn number_of(why: Refusal) -> u64
+    ensures { λ r. ⌜ (r ≡ numberOf why) × (r ≤ 11) ⌝ }
+{
+    match why {
+        Refusal::Size => 1,
+        Refusal::Width => 2,
+        Refusal::WordTooWide(_) => 3,
+        Refusal::PanelTooWide => 4,
+        Refusal::TwoCodes => 5,
+        Refusal::WrongLines => 6,
+        Refusal::NoSuchWord => 7,
+        Refusal::Unfit => 8,
+        Refusal::Malformed(_) => 9,
+        Refusal::NoRoom => 10,
+        Refusal::NotShown => 11,
+    }
+}
+
+fn result_of(answer: Answer) -> u64
+    ensures { λ r. ⌜ r ≡ resultOf answer ⌝ }
+{
+    match answer {
+        Answer::Done { count, read: _ } => count as u64,
+        Answer::Refused(why) => number_of(why) * 4294967296,
+    }
+}
+
+#[no_mangle]
+pub extern "C" fn dushvaneth_wide_pulse(
+    words: &mut [u64],
+    responses: &mut [u8],
+    width: u32,
+    comp: u64,
+    sdr: u64,
+    sc1: u64,
+    sc2: u64,
+    mor: u64,
+    key: u8,
+    care: u8,
+    target: u8,
+    address: usize,
+    lines: u8,
+) -> u64
+    ensures { λ r. ⌜ r ≡ resultOf (answerOf (machine width (now (words .entry)) (now (responses .entry))) (panelOf comp sdr sc1 sc2 mor key care target address) (linesOf lines)) ⌝ }
+    ensures { λ r. ⌜ now (words .exit) ≡ after (machine width (now (words .entry)) (now (responses .entry))) (panelOf comp sdr sc1 sc2 mor key care target address) (linesOf lines) .words ⌝ }
+    ensures { λ r. ⌜ now (responses .exit) ≡ after (machine width (now (words .entry)) (now (responses .entry))) (panelOf comp sdr sc1 sc2 mor key care target address) (linesOf lines) .responses ⌝ }
+{
+    let panel = Panel {
+        comp,
+        sdr,
+        sc1,
+        sc2,
+        mor,
+        key,
+        care,
+        target,
+        address: WordSlice(address),
+    };
+    result_of(wide::pulse(words, responses, width, panel, lines_of(lines)))
+}
+
+#[no_mangle]
+pub extern "C" fn dushvaneth_cells_pulse(
+    words: &mut [u64],
+    responses: &mut [u8],
+    width: u32,
+    comp: u64,
+    sdr: u64,
+    sc1: u64,
+    sc2: u64,
+    mor: u64,
+    key: u8,
+    care: u8,
+    target: u8,
+    address: usize,
+    lines: u8,
+) -> u64
+    ensures { λ r. ⌜ r ≡ resultOf (answerOf (machine width (now (words .entry)) (now (responses .entry))) (panelOf comp sdr sc1 sc2 mor key care target address) (linesOf lines)) ⌝ }
+    ensures { λ r. ⌜ now (words .exit) ≡ after (machine width (now (words .entry)) (now (responses .entry))) (panelOf comp sdr sc1 sc2 mor key care target address) (linesOf lines) .words ⌝ }
+    ensures { λ r. ⌜ now (responses .exit) ≡ after (machine width (now (words .entry)) (now (responses .entry))) (panelOf comp sdr sc1 sc2 mor key care target address) (linesOf lines) .responses ⌝ }
+{
+    let panel = Panel {
+        comp,
+        sdr,
+        sc1,
+        sc2,
+        mor,
+        key,
+        care,
+        target,
+        address: WordSlice(address),
+    };
+    result_of(cells::pulse(words, responses, width, panel, lines_of(lines)))
+}
