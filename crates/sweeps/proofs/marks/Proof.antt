@@ -56,7 +56,7 @@ loop-less : tie.Need-loop-less Inv-loop μ-loop
 loop-less c = search needs
 
 loop-again : tie.Need-loop-again Inv-loop μ-loop
-loop-again c = 
+loop-again c =
     let s = c .before .before .before .before .before in
     let a = s .before .before .args in
     let i = s .loop .i in
@@ -74,7 +74,7 @@ same-length : tie.Need-same-length Inv-loop μ-loop
 same-length c = search needs
 
 returns : tie.Need-returns Inv-loop μ-loop
-returns c = 
+returns c =
     let a = c .before .before .before .args in
     let w = c .before .loop .inv .0 in (
       all-counted (hit (a .p)) (a .h .now) (a .responses .now) (c .before .loop .n) (c .before .loop .i) (c .before .loop .inv .1) (w .first) (w .second) (search needs),

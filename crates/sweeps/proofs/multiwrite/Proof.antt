@@ -65,7 +65,7 @@ loop-less : tie.Need-loop-less Inv-loop μ-loop
 loop-less c = search needs
 
 loop-again : tie.Need-loop-again Inv-loop μ-loop
-loop-again c = 
+loop-again c =
     let s = c .before .before .before .before .before .before in
     let a = s .before .before .before .before .args in
     step (changed true false (a .q) (a .p)) (a .responses .now) (a .words .now) (s .loop .words) (s .loop .i) (s .loop .inv) (c .kept .result)

@@ -1,4 +1,3 @@
-
 use Rattle.sweeps.proofs.put_in.Statement.{statement}
 use Rattle.sweeps.proofs.put_in.Tie as tie
 use Rattle.sweeps.proofs.put_in.Reads as reads

@@ -20,7 +20,7 @@ use Rattle.sweeps.proofs.shorter.Reads as shorter-reads
 use Rattle.sweeps.proofs.size.Reads as size-reads
 
 abbrev Inv-loop : tie.InvT-loop
-Inv-loop m q p write add words₀ responses₀ n₀ h₀ all i₀ words responses n h i = 
+Inv-loop m q p write add words₀ responses₀ n₀ h₀ all i₀ words responses n h i =
     Walk (changed write add q p) responses₀ words₀ words i
     × Walk (answer m p) words₀ responses₀ responses i
     × Tally (found m p) words₀ responses₀ n i
@@ -94,8 +94,11 @@ marks-requires : tie.Need-marks-requires Inv-loop μ-loop
 marks-requires c κs =
     let s = c .before .before .before .before .before .before .before .before .before .before .before .before .before .before in
     let e = c .before .before .before .before .before .before .before .before .before .before .before .before .block-end in (
-      omega (arith, e .ensures,
-          length-between (s .loop .i) (e .result) (s .loop .responses) (omega (arith, e .ensures, s .before .shorter .ensures, s .loop .inv .1 .long))),
+      omega (
+        arith,
+        e .ensures,
+        length-between (s .loop .i) (e .result) (s .loop .responses) (omega (arith, e .ensures, s .before .shorter .ensures, s .loop .inv .1 .long)),
+      ),
       c .before .before .before .before .before .before .before .before .flags .ensures .1,
     )
 
@@ -129,8 +132,7 @@ loop-again c =
     let d =
     searched (s .loop .i) (e .result) (search needs) (a .words .now) (a .responses .now) (s .loop .words) (s .loop .responses) (search needs) (search needs)
     (s .loop .inv .0 .left) (a .m) (a .p) (f .last .1 .1 .0) (b .last .1 .1 .0) (s .loop .n) (c .size .result) (s .loop .inv .1) (s .loop .inv .2)
-    (omega (arith, e .ensures, f .ensures .1)) (f .ensures .0) (b .ensures .1) (c .size .ensures ∙ b .ensures .0) in
-    (
+    (omega (arith, e .ensures, f .ensures .1)) (f .ensures .0) (b .ensures .1) (c .size .ensures ∙ b .ensures .0) in (
       moved (s .loop .i) (e .result) (search needs) (a .responses .now) (a .words .now) (s .loop .responses) (s .loop .words) (search needs) (search needs)
           (s .loop .inv .1 .left) (changed (a .write) (a .add) (a .q) (a .p)) (g .last .1 .1 .1 .1 .0) (s .loop .inv .0) (g .ensures),
       d .0,
@@ -145,7 +147,7 @@ same-length-2 : tie.Need-same-length-2 Inv-loop μ-loop
 same-length-2 c = search needs
 
 returns : tie.Need-returns Inv-loop μ-loop
-returns c = 
+returns c =
     let s = c .before in
     let a = s .before .before .before .before .args in
     let w = s .loop .inv .1 in (

@@ -61,7 +61,7 @@ loop-again c =
     )
 
 returns : tie.Need-returns Inv-loop μ-loop
-returns c = 
+returns c =
     let a = c .before .before .before .args in
     all-counted (λ x r. chosen (a .p) r) (a .responses .now) (a .responses .now) (c .before .loop .n) (c .before .loop .i) (c .before .loop .inv .1)
     (search needs) (search needs) (search needs)

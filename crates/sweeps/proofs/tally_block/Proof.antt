@@ -39,7 +39,7 @@ loop-less : tie.Need-loop-less Inv-loop μ-loop
 loop-less c = search needs
 
 loop-again : tie.Need-loop-again Inv-loop μ-loop
-loop-again c = 
+loop-again c =
     let s = c .before .before .before in
     let a = s .before .before .args in (
       search needs,
@@ -49,7 +49,7 @@ loop-again c =
     )
 
 returns : tie.Need-returns Inv-loop μ-loop
-returns c = 
+returns c =
     let a = c .before .before .before .args in
     all-counted (λ x r. chosen (a .p) r) (a .responses .now) (a .responses .now) (c .before .loop .n) (c .before .loop .i) (c .before .loop .inv .1)
     (search needs) (search needs) (search needs)

@@ -31,13 +31,13 @@ loop-less : tie.Need-loop-less Inv-loop μ-loop
 loop-less c = search needs
 
 loop-again : tie.Need-loop-again Inv-loop μ-loop
-loop-again c = 
+loop-again c =
     let s = c .before .before in
     let ws = s .before .args .words .now in
     (search needs, union-next (s .loop .all) ws (s .loop .i) (search needs) ∙ s .loop .inv .1)
 
 returns : tie.Need-returns Inv-loop μ-loop
-returns c = 
+returns c =
     let s = c .before in
     sym (union-end (s .loop .all) (s .before .args .words .now) (s .loop .i) (search needs)) ∙ s .loop .inv .1
 

@@ -14,7 +14,7 @@ mask-of-requires : tie.Need-mask-of-requires
 mask-of-requires c κs = search needs
 
 returns : tie.Need-returns
-returns c = 
+returns c =
     let s = c .before .before in
     let f = s .fits in
     sum-is (s .args .width) (s .args .t) (s .args .w) (s .args .a) _ _ (s .pre .1) (f .t .fits) (f .w .fits) (f .a .fits) (c .before .wrapping-add-u64 .ensures)

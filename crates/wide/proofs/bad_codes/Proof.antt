@@ -14,22 +14,22 @@ tops-of-requires : tie.Need-tops-of-requires
 tops-of-requires c κs = search needs
 
 filled-requires : tie.Need-filled-requires
-filled-requires c κs = 
+filled-requires c κs =
     let s = c .before .before in
     (fit-tops _ (s .args .panel) _ (s .pre) (c .tops-of .ensures), s .pre .sc1)
 
 filled-requires-2 : tie.Need-filled-requires-2
-filled-requires-2 c κs = 
+filled-requires-2 c κs =
     let s = c .before .before .before in
     (fit-tops _ (s .args .panel) _ (s .pre) (c .before .tops-of .ensures), s .pre .sc2)
 
 filled-requires-3 : tie.Need-filled-requires-3
-filled-requires-3 c κs = 
+filled-requires-3 c κs =
     let s = c .before .before .before .before .before in
     (fit-tops _ (s .args .panel) _ (s .pre) (c .before .before .before .tops-of .ensures), xor-lt (s .args .width) _ _ (s .pre .sc1) (s .pre .sc2))
 
 returns : tie.Need-returns
-returns c = 
+returns c =
     let s = c .before .before .before .before .before .before in
     two-codes (s .args .width) (s .args .panel) (s .args .lines) (c .before .before .before .before .tops-of .result) _ _ _ (s .pre .least)
     (c .before .before .before .before .before .if1 .taken) (c .before .before .before .before .tops-of .ensures)

@@ -19,19 +19,19 @@ enum-told : tie.Need-enum-told
 enum-told c = search needs
 
 check-rest-requires : tie.Need-check-rest-requires
-check-rest-requires c κs = 
+check-rest-requires c κs =
     let s = c .before .before .before .before .before in
     let m = machine-passed (s .args .width) (s .args .words .now) (s .args .responses .now) (sym (c .before .before .check-machine .ensures) ∙ c .enum-told .given .1) in
     (m .1, m .2)
 
 returns : tie.Need-returns
-returns c = 
+returns c =
     let s = c .before .before .before .before .before .before in
     stopped (machine (s .args .width) (s .args .words .now) (s .args .responses .now)) (s .args .panel) (s .args .lines) _ _ (c .before .before .before .check-machine .ensures)
     (c .before .first .given .1)
 
 returns-2 : tie.Need-returns-2
-returns-2 c = 
+returns-2 c =
     let s = c .before .before .before .before .before .before in
     went-on (machine (s .args .width) (s .args .words .now) (s .args .responses .now)) (s .args .panel) (s .args .lines) _ _ (c .before .before .before .check-machine .ensures)
     (c .before .enum-told .given .1) (c .check-rest .ensures)

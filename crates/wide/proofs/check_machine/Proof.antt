@@ -23,7 +23,7 @@ bad-width-requires c κs = search needs
 
 returns-2 : tie.Need-returns-2
 unfolding machineCheck
-returns-2 c = 
+returns-2 c =
     onward Size _ _ _ (sym (c .before .before .before .bad-size .ensures) ∙ c .before .before .if1 .left)
     (refused Width _ _ (sym (c .before .bad-width .ensures) ∙ c .if2 .taken))
 
@@ -32,7 +32,7 @@ check-words-requires c κs = search needs
 
 returns-3 : tie.Need-returns-3
 unfolding machineCheck
-returns-3 c = 
+returns-3 c =
     let e = c .before in
     onward Size _ _ _ (sym (e .before .before .before .bad-size .ensures) ∙ e .before .before .if1 .left)
     (onward Width _ _ _ (sym (e .before .bad-width .ensures) ∙ e .if2 .left) (c .check-words .ensures))

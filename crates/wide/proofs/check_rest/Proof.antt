@@ -18,12 +18,12 @@ returns : tie.Need-returns
 returns c = refused PanelTooWide _ _ (sym (c .before .bad-panel .ensures) ∙ c .if1 .taken)
 
 bad-codes-requires : tie.Need-bad-codes-requires
-bad-codes-requires c κs = 
+bad-codes-requires c κs =
     let s = c .before .before in
     fit (s .args .width) (s .args .panel) (s .pre .0) (s .pre .1) (sym (c .before .bad-panel .ensures) ∙ c .if1 .left)
 
 returns-2 : tie.Need-returns-2
-returns-2 c = 
+returns-2 c =
     onward PanelTooWide _ _ _ (sym (c .before .before .before .bad-panel .ensures) ∙ c .before .before .if1 .left)
     (refused TwoCodes _ _ (sym (c .before .bad-codes .ensures) ∙ c .if2 .taken))
 
@@ -31,7 +31,7 @@ check-command-requires : tie.Need-check-command-requires
 check-command-requires c κs = search needs
 
 returns-3 : tie.Need-returns-3
-returns-3 c = 
+returns-3 c =
     let e = c .before in
     onward PanelTooWide _ _ _ (sym (e .before .before .before .bad-panel .ensures) ∙ e .before .before .if1 .left)
     (onward TwoCodes _ _ _ (sym (e .before .bad-codes .ensures) ∙ e .if2 .left) (c .check-command .ensures))

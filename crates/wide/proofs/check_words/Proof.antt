@@ -31,7 +31,7 @@ returns : tie.Need-returns
 returns c = c .refuse-word .ensures ∙ ap refuseWord (c .before .first-too-wide .ensures)
 
 returns-2 : tie.Need-returns-2
-returns-2 c = 
+returns-2 c =
     let s = c .before .before .before .before .before in
     sym (ap refuseWord (none-lowest (s .args .width) 0 (s .args .words .now)
     (λ j g. omega (
@@ -42,7 +42,7 @@ returns-2 c =
     ))))
 
 returns-3 : tie.Need-returns-3
-returns-3 c = 
+returns-3 c =
     let s = c .before .before in
     sym (ap refuseWord (none-lowest (s .args .width) 0 (s .args .words .now)
     (λ j g. omega (arith, c .before .shared-slice-known .given j, pow-mono {i = 64} {j = s .args .width} (search needs)))))

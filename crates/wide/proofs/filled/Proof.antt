@@ -14,7 +14,7 @@ wrapping-add-u64-requires : tie.Need-wrapping-add-u64-requires
 wrapping-add-u64-requires c κs = search needs
 
 returns : tie.Need-returns
-returns c = 
+returns c =
     let s = c .before .before in
     filled-is (s .args .width) (s .args .t) (s .args .q) (c .before .mask-of .result) _ (s .pre .0) (s .fits .q .fits) (s .fits .t .fits)
     (c .before .mask-of .ensures) (c .wrapping-add-u64 .ensures)

@@ -22,7 +22,7 @@ add-word-requires : tie.Need-add-word-requires
 add-word-requires c κs = search needs
 
 filled-requires : tie.Need-filled-requires
-filled-requires c κs = 
+filled-requires c κs =
     let s = c .before .before .before .before .before .before .before in (
       fit-tops _ (s .args .panel) _ (s .pre) (c .before .before .before .before .before .before .tops-of .ensures),
       or-lt (s .args .width) _ _ (s .pre .sc1) (s .pre .sc2),
@@ -30,7 +30,7 @@ filled-requires c κs =
 
 returns : tie.Need-returns
 unfolding masksOf
-returns c = 
+returns c =
     let m = c .before .before .before .before .before .before .before .before .before in
     rw (
       c .before .before .before .filled .ensures,

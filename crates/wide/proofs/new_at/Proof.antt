@@ -25,7 +25,7 @@ new-word-requires : tie.Need-new-word-requires
 new-word-requires c κs = search needs
 
 returns : tie.Need-returns
-returns c = 
+returns c =
     let s = c .before .before .before .before .before .before .before .before in
     let care : s .args .panel .care < 2 ^ responseBits = omega (arith, s .good) in
     let target : s .args .panel .target < 2 ^ responseBits = omega (arith, s .good) in

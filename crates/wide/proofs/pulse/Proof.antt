@@ -18,13 +18,13 @@ enum-told : tie.Need-enum-told
 enum-told c = search needs
 
 read-word-requires : tie.Need-read-word-requires
-read-word-requires c κs = 
+read-word-requires c κs =
     let s = c .before .before .before .before .before .before .before .before in
     let a = s .args in
     read-in-range (a .width) (a .panel) (a .lines) (a .words .now) (a .responses .now) (accepted (a .width) (a .panel) (a .lines) (a .words .now) (a .responses .now) (sym (c .before .before .before .check .ensures) ∙ c .before .enum-told .given .1))
 
 run-requires : tie.Need-run-requires
-run-requires c κs = 
+run-requires c κs =
     let s = c .before .before .before .before .before .before .before .before .before .before .before in
     let a = s .args in
     accepted (a .width) (a .panel) (a .lines) (a .words .now) (a .responses .now) (sym (c .before .before .before .before .before .before .check .ensures) ∙ c .before .before .before .before .enum-told .given .1)
@@ -39,7 +39,7 @@ same-length-2 : tie.Need-same-length-2
 same-length-2 c = search needs
 
 returns : tie.Need-returns
-returns c = 
+returns c =
     let s = c .before .before .before .before .before .before .before .before .before .before .before .before .before .before .before .before in
     let a = s .args in
     let r = c .before .before .before .before .run in
@@ -53,7 +53,7 @@ same-length-4 : tie.Need-same-length-4
 same-length-4 c = search needs
 
 returns-2 : tie.Need-returns-2
-returns-2 c = 
+returns-2 c =
     let s = c .before .before .before .before .before .before .before .before in
     let a = s .args in
     turned-down (machine (a .width) (a .words .now) (a .responses .now)) (a .panel) (a .lines) _ (c .before .before .before .check .ensures) _ (c .before .checked .given .1)

@@ -11,25 +11,25 @@ use Rattle.wide.proofs.new_at.Reads as new-at-reads
 use Rattle.wide.proofs.sweep.Reads as sweep-reads
 
 mul-new-at : tie.Need-mul-new-at
-mul-new-at c = 
+mul-new-at c =
     let s = c .before .before .before .before in
     let a = s .args in
     omega (arith, in-range (a .width) (a .panel) (a .lines) (a .words .now) (a .responses .now) (s .pre) (c .if1 .taken))
 
 slice-read-new-at : tie.Need-slice-read-new-at
-slice-read-new-at c = 
+slice-read-new-at c =
     let s = c .before .before .before .before .before in
     let a = s .args in
     in-range (a .width) (a .panel) (a .lines) (a .words .now) (a .responses .now) (s .pre) (c .before .if1 .taken)
 
 slice-read-new-at-2 : tie.Need-slice-read-new-at-2
-slice-read-new-at-2 c = 
+slice-read-new-at-2 c =
     let s = c .before .before .before .before .before .before in
     let a = s .args in
     omega (arith, in-range (a .width) (a .panel) (a .lines) (a .words .now) (a .responses .now) (s .pre) (c .before .before .if1 .taken))
 
 new-at-requires : tie.Need-new-at-requires
-new-at-requires c κs = 
+new-at-requires c κs =
     let s = c .before .before .before .before .before .before in
     let a = s .args in
     (s .pre .fit, s .pre .words (a .panel .address .0))
@@ -38,13 +38,13 @@ sweep-requires : tie.Need-sweep-requires
 sweep-requires c κs = search needs
 
 mul-words : tie.Need-mul-words
-mul-words c = 
+mul-words c =
     let s = c .before .before .before .before .before .before .before .before .before .before .before .before .before .before in
     let a = s .args in
     omega (arith, in-range (a .width) (a .panel) (a .lines) (a .words .now) (a .responses .now) (s .pre) (c .before .before .before .before .before .before .before .before .before .before .if1 .taken))
 
 slice-write-words : tie.Need-slice-write-words
-slice-write-words c = 
+slice-write-words c =
     let s = c .before .before .before .before .before .before .before .before .before .before .before .before .before .before in
     let a = s .args in
     omega (arith, in-range (a .width) (a .panel) (a .lines) (a .words .now) (a .responses .now) (s .pre) (c .before .before .before .before .before .before .before .before .before .before .if1 .taken))
@@ -59,7 +59,7 @@ same-length-2 : tie.Need-same-length-2
 same-length-2 c = search needs
 
 returns : tie.Need-returns
-returns c = 
+returns c =
     let s = c .before .before .before .before .before .before .before .before .before .before .before .before .before .before in
     let a = s .args in
     let w = c .before .before .before .before .sweep in
@@ -74,7 +74,7 @@ same-length-4 : tie.Need-same-length-4
 same-length-4 c = search needs
 
 returns-2 : tie.Need-returns-2
-returns-2 c = 
+returns-2 c =
     let s = c .before .before .before .before .before .before .before .before .before .before .before in
     let a = s .args in
     let w = c .before .before .before .before .sweep2 in
