@@ -1,13 +1,13 @@
 -- A command and an answer as plain numbers, for callers in other languages.
 -- Assumes nothing.
 use Prim.Native.Nat.{ℕ, _+_, _*_}
-use mathlib.Core.Bool.{Bool, true, false}
+use mathlib.Core.Bool.{Bool}
 use lib.Dec.{eqb}
 use Rattle.laws.specs.Bits.{bit}
 use Rattle.machine.specs.declared.Panel.{Panel}
 use Rattle.machine.specs.declared.Lines.{Lines}
 use Rattle.machine.specs.declared.Answer.{Answer}
-use Rattle.machine.specs.Refusals.{Told, told}
+use Rattle.machine.specs.Refusals.{told}
 
 -- COMP, SDR, SC1, SC2, MOR, key, care, target, address
 abbrev pub panelOf : ℕ → ℕ → ℕ → ℕ → ℕ → ℕ → ℕ → ℕ → ℕ → Panel

@@ -1,10 +1,15 @@
 -- Demand 2: "Every pulse does to every word what 01 lays down. Search marks exactly the matching words."
 -- Assumes nothing.
 use Prim.Native.Nat.{ℕ, _<_}
-use mathlib.Core.Path.{_≡_}
+use mathlib.Core.Path.{_≡_, sym, _∙_}
 use mathlib.Core.Bool.{Bool, true, false}
 use native.Mathlib.Omega.{arith}
 use lib.Dec.{eqb}
+use contract.Lifetimes.{Lfts}
+use borrow.Fn.World.{ArgsD, ResD}
+use borrow.Fn.Kinds.{endedOf}
+use denote.Triple.Clauses.{AtExit}
+use denote.Ref.{now}
 use lib.ListN.{length, getD}
 use Rattle.laws.specs.Bits.{bit, pick, digit}
 use Rattle.laws.proofs.Digits.{bit-lt}
@@ -14,13 +19,25 @@ use Rattle.laws.proofs.Lists.{at-zip}
 use Rattle.machine.specs.declared.Panel.{Panel}
 use Rattle.machine.specs.declared.Lines.{Lines}
 use Rattle.machine.specs.declared.Check.the-variants.{Passed}
-use Rattle.machine.specs.Machine.{Machine, responseBits, syllables}
+use Rattle.machine.specs.Machine.{Machine, responseBits, syllables, selected}
 use Rattle.machine.specs.Search.{oneCode, matches, marked}
 use Rattle.machine.specs.Cells.{cellsMatch}
 use Rattle.machine.specs.Pulse.{wordAfter, responseAfter, pulsed}
+use Rattle.machine.specs.declared.WordSlice.{WordSlice}
+use Rattle.machine.specs.declared.Found.the-variants.{At, Nothing}
+use Rattle.machine.specs.Resolution.{resolved}
 use Rattle.machine.specs.Refusals.{pulseCheck, after}
 use Rattle.machine.proofs.Checks as checks
 use Rattle.machine.proofs.Statuses.{cells-match}
+use Rattle.cells.proofs.pulse as plain
+use Rattle.cells.proofs.pulse.Kinds as plain-kinds
+use Rattle.cells.proofs.pulse.Reads as plain-reads
+use Rattle.wide.proofs.pulse.Reads as wide-reads
+use Rattle.resolver.proofs.scan as scan
+use Rattle.resolver.proofs.scan.Kinds as scan-kinds
+use Rattle.resolver.proofs.scan.Reads as scan-reads
+use Rattle.resolver.proofs.network.Reads as network-reads
+use Rattle.resolver.proofs.Lowest.{NonePasses, LowestAt, resolved-none, resolved-word}
 
 marked-digit : (t : ℕ) (b : Bool) {r : ℕ} → r < 2 → pick (eqb t 1) (digit b) r < 2
 marked-digit t b h = go (eqb t 1) b h
@@ -60,3 +77,26 @@ module _ (m : Machine) (p : Panel) (l : Lines) (accepted : pulseCheck m p l ≡ 
 -- "This is the plain machine; the word-wide one agrees with it": its cells match the words that the numbers match wherever 5 is not given
 pub cells-agree : (n : ℕ) (p : Panel) (w r : ℕ) → all (oneCode p) (syllables n (p .sdr)) ≡ true → cellsMatch n p w r ≡ matches n p w r
 cells-agree = cells-match
+
+-- ---- the two machines agree, and so do the two resolutions: for the same arguments a, an outcome that meets the one's contract and an outcome
+-- that meets the other's are equal, in the answer r and in both buffers at exit, s, on refusal as on success
+
+pub machines-agree : (κs : Lfts 2) (a : ArgsD plain.signature κs) (r r′ : ResD plain.signature κs) (s s′ : AtExit (endedOf 2 plain-kinds.ps plain-kinds.r) κs)
+    → plain-reads.Post κs a r s → wide-reads.Post κs a r′ s′ → (r ≡ r′) × (now (s .0) ≡ now (s′ .0)) × (now (s .1 .0) ≡ now (s′ .1 .0))
+machines-agree κs a r r′ s s′ h g = (h .0 ∙ sym (g .0), h .1 .0 ∙ sym (g .1 .0), h .1 .1 ∙ sym (g .1 .1))
+
+-- "the tree halves the words until one is left, and answers as a scan from word 0 does"
+pub resolutions-agree : (κs : Lfts 2) (a : ArgsD scan.signature κs) (r r′ : ResD scan.signature κs) (s s′ : AtExit (endedOf 2 scan-kinds.ps scan-kinds.r) κs)
+    → scan-reads.Post κs a r s → network-reads.Post κs a r′ s′ → r ≡ r′
+resolutions-agree κs a r r′ s s′ h g = h ∙ sym g
+
+-- "The lowest-numbered selected word, or none exactly if no word is selected"
+pub none-exactly : (key care : ℕ) (m : Machine)
+    → (resolved key care m ≡ Nothing → NonePasses (selected key care) (m .responses))
+    × (NonePasses (selected key care) (m .responses) → resolved key care m ≡ Nothing)
+none-exactly = resolved-none
+
+pub lowest-exactly : (key care : ℕ) (m : Machine) (w : WordSlice)
+    → (resolved key care m ≡ At w → LowestAt (selected key care) (m .responses) (w .0))
+    × (LowestAt (selected key care) (m .responses) (w .0) → resolved key care m ≡ At w)
+lowest-exactly = resolved-word

@@ -1,4 +1,6 @@
 -- what is promised: a reader opens these files
 pub mod Demand1
 pub mod Demand2
+pub mod Demand3
 pub mod Figures
+pub mod Settled

@@ -1,15 +1,9 @@
-use mathlib.Core.Path.{_≡_, refl, sym, ap, _∙_}
-use Rattle.entries.specs.Numbers.{resultOf, panelOf, linesOf}
+use Rattle.entries.specs.Numbers.{panelOf, linesOf}
 use Rattle.machine.specs.Machine.{machine}
 use Rattle.entries.proofs.Passed.{passed}
 use borrow.Author.Needs.{needs}
 use Rattle.entries.proofs.dushvaneth_wide_pulse.Statement.{statement}
 use Rattle.entries.proofs.dushvaneth_wide_pulse.Tie as tie
-use Rattle.entries.proofs.dushvaneth_wide_pulse.Reads as reads
-use Rattle.entries.proofs.dushvaneth_wide_pulse.Lts as lts
-use Rattle.entries.proofs.lines_of.Reads as lines-of-reads
-use Rattle.entries.proofs.result_of.Reads as result-of-reads
-use Rattle.wide.proofs.pulse.Reads as pulse-reads
 
 lines-of-requires : tie.Need-lines-of-requires
 lines-of-requires c κs = search needs

@@ -1,10 +1,6 @@
-use mathlib.Core.Path.{_≡_, refl, sym, ap, _∙_}
 use borrow.Author.Needs.{needs}
 use Rattle.entries.proofs.lines_of.Statement.{statement}
 use Rattle.entries.proofs.lines_of.Tie as tie
-use Rattle.entries.proofs.lines_of.Reads as reads
-use Rattle.entries.proofs.lines_of.Lts as lts
-use Rattle.entries.proofs.is_raised.Reads as is-raised-reads
 
 is-raised-requires : tie.Need-is-raised-requires
 is-raised-requires c κs = search needs

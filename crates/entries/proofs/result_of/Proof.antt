@@ -1,12 +1,9 @@
 use native.Mathlib.Omega.{arith}
 use Rattle.entries.specs.Numbers.{resultOf}
-use mathlib.Core.Path.{_≡_, refl, sym, ap, _∙_}
+use mathlib.Core.Path.{sym, ap}
 use borrow.Author.Needs.{needs}
 use Rattle.entries.proofs.result_of.Statement.{statement}
 use Rattle.entries.proofs.result_of.Tie as tie
-use Rattle.entries.proofs.result_of.Reads as reads
-use Rattle.entries.proofs.result_of.Lts as lts
-use Rattle.entries.proofs.number_of.Reads as number-of-reads
 
 enum-known-answer : tie.Need-enum-known-answer
 enum-known-answer c = search needs

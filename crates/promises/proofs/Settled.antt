@@ -1,0 +1,59 @@
+-- "Each public call's contract determines its answer and everything lent to it afterwards, on refusal as on success; prove that two outcomes
+-- meeting it are equal." Each theorem speaks of the contract as the call's own source states it: `Post` of the call, of its arguments a, an
+-- answer r and what stands behind the lent references at exit, s. What is lent by & cannot change.
+-- Assumes nothing.
+use mathlib.Core.Path.{_≡_, sym, _∙_}
+use contract.Lifetimes.{Lfts}
+use borrow.Fn.World.{ArgsD, ResD}
+use borrow.Fn.Kinds.{endedOf}
+use denote.Triple.Clauses.{AtExit}
+use denote.Ref.{now}
+use Rattle.cells.proofs.pulse as plain-pulse
+use Rattle.cells.proofs.pulse.Kinds as plain-pulse-kinds
+use Rattle.cells.proofs.pulse.Reads as plain-pulse-reads
+use Rattle.wide.proofs.pulse as wide-pulse
+use Rattle.wide.proofs.pulse.Kinds as wide-pulse-kinds
+use Rattle.wide.proofs.pulse.Reads as wide-pulse-reads
+use Rattle.resolver.proofs.scan as scan
+use Rattle.resolver.proofs.scan.Kinds as scan-kinds
+use Rattle.resolver.proofs.scan.Reads as scan-reads
+use Rattle.resolver.proofs.network as network
+use Rattle.resolver.proofs.network.Kinds as network-kinds
+use Rattle.resolver.proofs.network.Reads as network-reads
+use Rattle.rounds.proofs.show as show
+use Rattle.rounds.proofs.show.Kinds as show-kinds
+use Rattle.rounds.proofs.show.Reads as show-reads
+use Rattle.rounds.proofs.answer as answer
+use Rattle.rounds.proofs.answer.Kinds as answer-kinds
+use Rattle.rounds.proofs.answer.Reads as answer-reads
+use Rattle.rounds.proofs.round as round
+use Rattle.rounds.proofs.round.Kinds as round-kinds
+use Rattle.rounds.proofs.round.Reads as round-reads
+
+pub plain-pulse-settled : (κs : Lfts 2) (a : ArgsD plain-pulse.signature κs) (r r′ : ResD plain-pulse.signature κs) (s s′ : AtExit (endedOf 2 plain-pulse-kinds.ps plain-pulse-kinds.r) κs)
+    → plain-pulse-reads.Post κs a r s → plain-pulse-reads.Post κs a r′ s′ → (r ≡ r′) × (now (s .0) ≡ now (s′ .0)) × (now (s .1 .0) ≡ now (s′ .1 .0))
+plain-pulse-settled κs a r r′ s s′ h g = (h .0 ∙ sym (g .0), h .1 .0 ∙ sym (g .1 .0), h .1 .1 ∙ sym (g .1 .1))
+
+pub wide-pulse-settled : (κs : Lfts 2) (a : ArgsD wide-pulse.signature κs) (r r′ : ResD wide-pulse.signature κs) (s s′ : AtExit (endedOf 2 wide-pulse-kinds.ps wide-pulse-kinds.r) κs)
+    → wide-pulse-reads.Post κs a r s → wide-pulse-reads.Post κs a r′ s′ → (r ≡ r′) × (now (s .0) ≡ now (s′ .0)) × (now (s .1 .0) ≡ now (s′ .1 .0))
+wide-pulse-settled κs a r r′ s s′ h g = (h .0 ∙ sym (g .0), h .1 .0 ∙ sym (g .1 .0), h .1 .1 ∙ sym (g .1 .1))
+
+pub scan-settled : (κs : Lfts 2) (a : ArgsD scan.signature κs) (r r′ : ResD scan.signature κs) (s s′ : AtExit (endedOf 2 scan-kinds.ps scan-kinds.r) κs)
+    → scan-reads.Post κs a r s → scan-reads.Post κs a r′ s′ → r ≡ r′
+scan-settled κs a r r′ s s′ h g = h ∙ sym g
+
+pub network-settled : (κs : Lfts 2) (a : ArgsD network.signature κs) (r r′ : ResD network.signature κs) (s s′ : AtExit (endedOf 2 network-kinds.ps network-kinds.r) κs)
+    → network-reads.Post κs a r s → network-reads.Post κs a r′ s′ → r ≡ r′
+network-settled κs a r r′ s s′ h g = h ∙ sym g
+
+pub show-settled : (κs : Lfts 2) (a : ArgsD show.signature κs) (r r′ : ResD show.signature κs) (s s′ : AtExit (endedOf 2 show-kinds.ps show-kinds.r) κs)
+    → show-reads.Post κs a r s → show-reads.Post κs a r′ s′ → r ≡ r′
+show-settled κs a r r′ s s′ h g = h ∙ sym g
+
+pub answer-settled : (κs : Lfts 2) (a : ArgsD answer.signature κs) (r r′ : ResD answer.signature κs) (s s′ : AtExit (endedOf 2 answer-kinds.ps answer-kinds.r) κs)
+    → answer-reads.Post κs a r s → answer-reads.Post κs a r′ s′ → (r ≡ r′) × (now (s .1 .0) ≡ now (s′ .1 .0))
+answer-settled κs a r r′ s s′ h g = (h .0 ∙ sym (g .0), h .1 ∙ sym (g .1))
+
+pub round-settled : (κs : Lfts 3) (a : ArgsD round.signature κs) (r r′ : ResD round.signature κs) (s s′ : AtExit (endedOf 3 round-kinds.ps round-kinds.r) κs)
+    → round-reads.Post κs a r s → round-reads.Post κs a r′ s′ → (r ≡ r′) × (now (s .1 .0) ≡ now (s′ .1 .0))
+round-settled κs a r r′ s s′ h g = (h .0 ∙ sym (g .0), h .1 ∙ sym (g .1))
