@@ -1,0 +1,79 @@
+-- Document 01, 'The image': what writing and reading answer, and what they leave in what is lent.
+-- "writing an image for 1 to 3, 8 and 10; reading one for 9 and 10"
+-- Assumes nothing.
+use Prim.Native.Nat.{ℕ}
+use mathlib.Core.Bool.{Bool, true, false, _||_}
+use mathlib.Core.List.{List}
+use lib.Dec.{ltb}
+use lib.ListN.{length}
+use lib.Seq.{sets}
+use Rattle.laws.specs.Bits.{pick}
+use Rattle.machine.specs.declared.Check.{Check}
+use Rattle.machine.specs.declared.Check.the-variants as check
+use Rattle.machine.specs.declared.Refusal.the-variants.{Unfit, Malformed, NoRoom}
+use Rattle.machine.specs.Machine.{Machine}
+use Rattle.machine.specs.Refusals.{_else_, refuse, machineCheck}
+use Rattle.jobs.specs.declared.Held.{Held}
+use Rattle.jobs.specs.declared.Held.the-variants.{Nothing, Holds}
+use Rattle.jobs.specs.Places.{badHeld}
+use Rattle.jobs.specs.Runs.{State}
+use Rattle.image.specs.declared.Wrote.{Wrote}
+use Rattle.image.specs.declared.Wrote.the-variants as wrote
+use Rattle.image.specs.declared.Read.{Read}
+use Rattle.image.specs.declared.Read.the-variants as read
+use Rattle.image.specs.declared.Scanned.{Scanned}
+use Rattle.image.specs.declared.Scanned.the-variants.{Sound, Broken}
+use Rattle.image.specs.Format.{imageOf}
+use Rattle.image.specs.Reading.{wordsIn, scanned, stateIn}
+
+-- ---- writing
+
+-- 8: the held job as after its start; none is fine
+abbrev pub badJob : ℕ → Held → Bool
+badJob n Nothing = false
+badJob n (Holds o) = badHeld n o
+
+-- 10: "output shorter than the image"
+unfoldable pub writeCheck : State → ℕ → Check
+writeCheck s room =
+    machineCheck (s .machine) else refuse Unfit (badJob (s .machine .width) (s .held)) else refuse NoRoom (ltb room (length (imageOf s)))
+
+abbrev pub wroteBy : Check → ℕ → Wrote
+wroteBy check.Passed n = wrote.Length n
+wroteBy (check.Refused r) n = wrote.Refused r
+
+unfoldable pub writeOf : State → ℕ → Wrote
+writeOf s room = wroteBy (writeCheck s room) (length (imageOf s))
+
+-- "writing [changes] only the image's own bytes"
+abbrev pub outBy : Check → List ℕ → List ℕ → List ℕ
+outBy check.Passed new old = new
+outBy (check.Refused r) new old = old
+
+unfoldable pub written : State → List ℕ → List ℕ
+written s out = outBy (writeCheck s (length out)) (sets out 0 (imageOf s)) out
+
+-- ---- reading
+
+-- 9
+abbrev pub refuseBytes : Scanned → Check
+refuseBytes Sound = check.Passed
+refuseBytes (Broken at) = check.Refused (Malformed at)
+
+-- 10: "either destination shorter than n"
+unfoldable pub readCheck : List ℕ → ℕ → ℕ → Check
+readCheck bs words responses = refuseBytes (scanned bs) else refuse NoRoom (ltb words (wordsIn bs) || ltb responses (wordsIn bs))
+
+abbrev pub readBy : Check → State → Read
+readBy check.Passed s = read.Machine (s .machine .width) (length (s .machine .words)) (s .held)
+readBy (check.Refused r) s = read.Refused r
+
+unfoldable pub readOf : List ℕ → ℕ → ℕ → Read
+readOf bs words responses = readBy (readCheck bs words responses) (stateIn bs)
+
+-- "Reading changes only the first n of each destination"
+unfoldable pub wordsRead : List ℕ → List ℕ → List ℕ → List ℕ
+wordsRead bs ws rs = outBy (readCheck bs (length ws) (length rs)) (sets ws 0 (stateIn bs .machine .words)) ws
+
+unfoldable pub responsesRead : List ℕ → List ℕ → List ℕ → List ℕ
+responsesRead bs ws rs = outBy (readCheck bs (length ws) (length rs)) (sets rs 0 (stateIn bs .machine .responses)) rs

@@ -1,0 +1,4 @@
+-- document 01 on the image
+pub mod Format
+pub mod Reading
+pub mod Calls
