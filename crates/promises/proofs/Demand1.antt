@@ -1,17 +1,19 @@
 -- Demand 1: "Every call takes any input. What is wrong gets its refusal number from document 01, always the same one, and nothing lent changes."
 -- That calls take any input is said by their contracts, which have no `requires`.
 -- Assumes nothing.
-use Prim.Native.Nat.{ℕ, suc}
-use mathlib.Core.Path.{_≡_, refl}
+use Prim.Native.Nat.{ℕ}
+use mathlib.Core.Path.{_≡_, refl, sym, _∙_}
 use mathlib.Core.Bool.{Bool, true, false}
 use mathlib.Core.List.{List, [], _∷_}
 use lib.ListN.{length}
 use Rattle.laws.specs.Bits.{pick}
 use Rattle.machine.specs.declared.Panel.{Panel}
 use Rattle.machine.specs.declared.Lines.{Lines}
+use Rattle.machine.specs.declared.WordSlice.{WordSlice}
 use Rattle.machine.specs.declared.Found.{Found}
 use Rattle.machine.specs.declared.Found.the-variants.{At, Nothing}
-use Rattle.machine.specs.declared.Refusal.the-variants.{Size, Width, PanelTooWide, TwoCodes, WrongLines, NoSuchWord}
+use Rattle.machine.specs.declared.Refusal.{Refusal}
+use Rattle.machine.specs.declared.Refusal.the-variants.{Size, Width, PanelTooWide, TwoCodes, WrongLines, NoSuchWord, Unfit, NotShown}
 use Rattle.machine.specs.declared.Check.{Check}
 use Rattle.machine.specs.declared.Check.the-variants.{Passed, Refused}
 use Rattle.machine.specs.declared.Answer.{Answer}
@@ -19,56 +21,155 @@ use Rattle.machine.specs.declared.Answer.the-variants.{Done}
 use Rattle.machine.specs.Machine.{Machine}
 use Rattle.machine.specs.Pulse.{countOf, readOf, pulsed}
 use Rattle.machine.specs.Resolution.{lowest}
-use Rattle.machine.specs.Refusals.{badSize, badWidth, tooWide, badPanel, badCodes, badLines, badAddress, _else_, refuse, refuseWord, machineCheck, pulseCheck, answerBy, changeBy, answerOf, after, told}
+use Rattle.machine.specs.Refusals.{badSize, badWidth, tooWide, badPanel, badCodes, badLines, badAddress, _else_, refuse, refuseWord, machineCheck, pulseCheck, answerBy, changeBy, answerOf, after, numberOf, told}
+use Rattle.rounds.specs.declared.Verdict.{Verdict}
+use Rattle.rounds.specs.Round.{noBit, badBits, otherThan, shown, bitsCheck, showCheck, answerCheck, answeredAt, afterAnswer}
 
--- ---- a pulse
+-- ---- a call's part of the table: the numbers it is checked for, in order, each with its condition
+
+pub record Entry : Type 0 where
+  pub number : ℕ
+  pub holds : Bool
+
+abbrev entry : ℕ → Bool → Entry
+entry k b = record { number = k; holds = b }
+
+-- "Checked in number order": the number of the first condition that holds, or 0
+unfoldable pub first : List Entry → ℕ
+first [] = 0
+first (e ∷ es) = pick (e .holds) (e .number) (first es)
 
 abbrev pub some : Found → Bool
 some (At k) = true
 some Nothing = false
 
--- the table's conditions 1 to 7, in number order
-abbrev pub wrong : Machine → Panel → Lines → List Bool
-wrong m p l =
-    badSize (length (m .words)) (length (m .responses))
-    ∷ badWidth (m .width)
-    ∷ some (lowest (tooWide (m .width)) 0 (m .words))
-    ∷ badPanel (m .width) p
-    ∷ badCodes (m .width) p l
-    ∷ badLines l
-    ∷ badAddress (length (m .words)) p l
+abbrev pub pulseTable : Machine → Panel → Lines → List Entry
+pulseTable m p l =
+    entry 1 (badSize (length (m .words)) (length (m .responses)))
+    ∷ entry 2 (badWidth (m .width))
+    ∷ entry 3 (some (lowest (tooWide (m .width)) 0 (m .words)))
+    ∷ entry 4 (badPanel (m .width) p)
+    ∷ entry 5 (badCodes (m .width) p l)
+    ∷ entry 6 (badLines l)
+    ∷ entry 7 (badAddress (length (m .words)) p l)
     ∷ []
 
--- the number, counted from k, of the first condition that holds, or 0
-unfoldable pub first : ℕ → List Bool → ℕ
-first k [] = 0
-first k (b ∷ bs) = pick b k (first (suc k) bs)
+abbrev pub resolutionTable : Machine → List Entry
+resolutionTable m =
+    entry 1 (badSize (length (m .words)) (length (m .responses)))
+    ∷ entry 2 (badWidth (m .width))
+    ∷ entry 3 (some (lowest (tooWide (m .width)) 0 (m .words)))
+    ∷ []
 
-in-order : (a : Answer) (b₁ b₂ : Bool) (f : Found) (b₄ b₅ b₆ b₇ : Bool) → told a .refusal ≡ 0
-    → told (answerBy ((refuse Size b₁ else refuse Width b₂ else refuseWord f) else refuse PanelTooWide b₄ else refuse TwoCodes b₅ else refuse WrongLines b₆ else refuse NoSuchWord b₇) a) .refusal
-    ≡ first 1 (b₁ ∷ b₂ ∷ some f ∷ b₄ ∷ b₅ ∷ b₆ ∷ b₇ ∷ [])
+-- `unfit` is what 8 judges of the call: X of show; X and F of an answer
+abbrev pub roundTable : Bool → Machine → List Entry
+roundTable unfit m =
+    entry 1 (badSize (length (m .words)) (length (m .responses)))
+    ∷ entry 2 (badWidth (m .width))
+    ∷ entry 3 (some (lowest (tooWide (m .width)) 0 (m .words)))
+    ∷ entry 8 unfit
+    ∷ []
+
+abbrev pub answerTable : ℕ → ℕ → WordSlice → Machine → List Entry
+answerTable x f k m =
+    entry 1 (badSize (length (m .words)) (length (m .responses)))
+    ∷ entry 2 (badWidth (m .width))
+    ∷ entry 3 (some (lowest (tooWide (m .width)) 0 (m .words)))
+    ∷ entry 8 (badBits x f)
+    ∷ entry 11 (otherThan k (shown x m))
+    ∷ []
+
+-- the number that a check gives, 0 if it is passed
+abbrev pub given : Check → ℕ
+given Passed = 0
+given (Refused r) = numberOf r
+
+-- ---- "given exactly then": each call's refusal is the first condition of its table that holds, and there is none where none does
+
+machine-first : (b₁ b₂ : Bool) (f : Found) (c : Check) (es : List Entry) → given c ≡ first es
+    → given ((refuse Size b₁ else refuse Width b₂ else refuseWord f) else c) ≡ first (entry 1 b₁ ∷ entry 2 b₂ ∷ entry 3 (some f) ∷ es)
 unfolding first
-in-order a true b₂ f b₄ b₅ b₆ b₇ h = refl
-in-order a false true f b₄ b₅ b₆ b₇ h = refl
-in-order a false false (At k) b₄ b₅ b₆ b₇ h = refl
-in-order a false false Nothing true b₅ b₆ b₇ h = refl
-in-order a false false Nothing false true b₆ b₇ h = refl
-in-order a false false Nothing false false true b₇ h = refl
-in-order a false false Nothing false false false true h = refl
-in-order a false false Nothing false false false false h = h
+machine-first true b₂ f c es h = refl
+machine-first false true f c es h = refl
+machine-first false false (At k) c es h = refl
+machine-first false false Nothing c es h = h
 
--- "Checked in number order; given exactly then": the refusal is the first condition that holds, and there is none where none does
-pub refusal-is : (m : Machine) (p : Panel) (l : Lines) → told (answerOf m p l) .refusal ≡ first 1 (wrong m p l)
-unfolding answerOf pulseCheck machineCheck
-refusal-is m p l =
-    in-order (Done _ _) (badSize (length (m .words)) (length (m .responses))) (badWidth (m .width)) (lowest (tooWide (m .width)) 0 (m .words))
-    (badPanel (m .width) p) (badCodes (m .width) p l) (badLines l) (badAddress (length (m .words)) p l) refl
+-- 1 to 3, and then what follows
+after-machine : (m : Machine) (c : Check) (es : List Entry) → given c ≡ first es
+    → given (machineCheck m else c)
+    ≡ first (entry 1 (badSize (length (m .words)) (length (m .responses))) ∷ entry 2 (badWidth (m .width)) ∷ entry 3 (some (lowest (tooWide (m .width)) 0 (m .words))) ∷ es)
+unfolding machineCheck
+after-machine m c es h =
+    machine-first (badSize (length (m .words)) (length (m .responses))) (badWidth (m .width)) (lowest (tooWide (m .width)) 0 (m .words)) c es h
 
--- "Nothing lent changes"
-unchanged : (c : Check) (a : Answer) (new old : Machine) → told a .refusal ≡ 0 → (told (answerBy c a) .refusal ≡ 0 → ⊥) → changeBy c new old ≡ old
-unchanged Passed a new old e h = absurd (h e)
-unchanged (Refused r) a new old e h = refl
+four-to-seven : (b₄ b₅ b₆ b₇ : Bool)
+    → given (refuse PanelTooWide b₄ else refuse TwoCodes b₅ else refuse WrongLines b₆ else refuse NoSuchWord b₇) ≡ first (entry 4 b₄ ∷ entry 5 b₅ ∷ entry 6 b₆ ∷ entry 7 b₇ ∷ [])
+unfolding first
+four-to-seven true b₅ b₆ b₇ = refl
+four-to-seven false true b₆ b₇ = refl
+four-to-seven false false true b₇ = refl
+four-to-seven false false false true = refl
+four-to-seven false false false false = refl
 
-pub refused-unchanged : (m : Machine) (p : Panel) (l : Lines) → (told (answerOf m p l) .refusal ≡ 0 → ⊥) → after m p l ≡ m
-unfolding answerOf after
-refused-unchanged m p l h = unchanged (pulseCheck m p l) (Done (countOf m p l) (readOf m p l)) (pulsed m p l) m refl h
+pub pulse-given : (m : Machine) (p : Panel) (l : Lines) → given (pulseCheck m p l) ≡ first (pulseTable m p l)
+unfolding pulseCheck
+pulse-given m p l =
+    after-machine m _ _ (four-to-seven (badPanel (m .width) p) (badCodes (m .width) p l) (badLines l) (badAddress (length (m .words)) p l))
+
+passed-else : (c : Check) → given (c else Passed) ≡ given c
+passed-else Passed = refl
+passed-else (Refused r) = refl
+
+pub resolution-given : (m : Machine) → given (machineCheck m) ≡ first (resolutionTable m)
+unfolding first
+resolution-given m = sym (passed-else (machineCheck m)) ∙ after-machine m Passed [] refl
+
+one : (r : Refusal) (b : Bool) → given (refuse r b) ≡ first (entry (numberOf r) b ∷ [])
+unfolding first
+one r true = refl
+one r false = refl
+
+pub show-given : (x : ℕ) (m : Machine) → given (showCheck x m) ≡ first (roundTable (noBit x) m)
+unfolding bitsCheck
+show-given x m = after-machine m (refuse Unfit (noBit x)) (entry 8 (noBit x) ∷ []) (one Unfit (noBit x))
+
+regroup : (c : Check) (b b′ : Bool) → given ((c else refuse Unfit b) else refuse NotShown b′) ≡ given (c else (refuse Unfit b else refuse NotShown b′))
+regroup Passed b b′ = refl
+regroup (Refused r) b b′ = refl
+
+eight-eleven : (b b′ : Bool) → given (refuse Unfit b else refuse NotShown b′) ≡ first (entry 8 b ∷ entry 11 b′ ∷ [])
+unfolding first
+eight-eleven true b′ = refl
+eight-eleven false true = refl
+eight-eleven false false = refl
+
+pub answer-given : (x f : ℕ) (k : WordSlice) (m : Machine) → given (answerCheck x f k m) ≡ first (answerTable x f k m)
+unfolding answerCheck bitsCheck
+answer-given x f k m =
+    regroup (machineCheck m) (badBits x f) (otherThan k (shown x m))
+    ∙ after-machine m (refuse Unfit (badBits x f) else refuse NotShown (otherThan k (shown x m))) (entry 8 (badBits x f) ∷ entry 11 (otherThan k (shown x m)) ∷ [])
+    (eight-eleven (badBits x f) (otherThan k (shown x m)))
+
+-- ---- the answer tells that number
+
+told-given : (c : Check) (a : Answer) → told a .refusal ≡ 0 → told (answerBy c a) .refusal ≡ given c
+told-given Passed a h = h
+told-given (Refused r) a h = refl
+
+pub refusal-is : (m : Machine) (p : Panel) (l : Lines) → told (answerOf m p l) .refusal ≡ first (pulseTable m p l)
+unfolding answerOf
+refusal-is m p l = told-given (pulseCheck m p l) (Done (countOf m p l) (readOf m p l)) refl ∙ pulse-given m p l
+
+-- ---- "Nothing lent changes"
+
+kept : (c : Check) (new old : Machine) → (given c ≡ 0 → ⊥) → changeBy c new old ≡ old
+kept Passed new old h = absurd (h refl)
+kept (Refused r) new old h = refl
+
+pub pulse-unchanged : (m : Machine) (p : Panel) (l : Lines) → (first (pulseTable m p l) ≡ 0 → ⊥) → after m p l ≡ m
+unfolding after
+pulse-unchanged m p l h = kept (pulseCheck m p l) (pulsed m p l) m (λ e. h (sym (pulse-given m p l) ∙ e))
+
+pub answer-unchanged : (x f : ℕ) (k : WordSlice) (v : Verdict) (m : Machine) → (first (answerTable x f k m) ≡ 0 → ⊥) → afterAnswer x f k v m ≡ m
+unfolding afterAnswer
+answer-unchanged x f k v m h = kept (answerCheck x f k m) (answeredAt x f k v m) m (λ e. h (sym (answer-given x f k m) ∙ e))
