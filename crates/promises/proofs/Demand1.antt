@@ -3,7 +3,8 @@
 -- Assumes nothing.
 use Prim.Native.Nat.{ℕ}
 use mathlib.Core.Path.{_≡_, refl, sym, _∙_}
-use mathlib.Core.Bool.{Bool, true, false}
+use mathlib.Core.Bool.{Bool, true, false, _||_}
+use lib.Dec.{ltb}
 use mathlib.Core.List.{List, [], _∷_}
 use lib.ListN.{length}
 use Rattle.laws.specs.Bits.{pick}
@@ -13,7 +14,7 @@ use Rattle.machine.specs.declared.WordSlice.{WordSlice}
 use Rattle.machine.specs.declared.Found.{Found}
 use Rattle.machine.specs.declared.Found.the-variants.{At, Nothing}
 use Rattle.machine.specs.declared.Refusal.{Refusal}
-use Rattle.machine.specs.declared.Refusal.the-variants.{Size, Width, PanelTooWide, TwoCodes, WrongLines, NoSuchWord, Unfit, NotShown}
+use Rattle.machine.specs.declared.Refusal.the-variants.{Size, Width, PanelTooWide, TwoCodes, WrongLines, NoSuchWord, Unfit, NoRoom, NotShown}
 use Rattle.machine.specs.declared.Check.{Check}
 use Rattle.machine.specs.declared.Check.the-variants.{Passed, Refused}
 use Rattle.machine.specs.declared.Answer.{Answer}
@@ -22,6 +23,17 @@ use Rattle.machine.specs.Machine.{Machine}
 use Rattle.machine.specs.Pulse.{countOf, readOf, pulsed}
 use Rattle.machine.specs.Resolution.{lowest}
 use Rattle.machine.specs.Refusals.{badSize, badWidth, tooWide, badPanel, badCodes, badLines, badAddress, _else_, refuse, refuseWord, machineCheck, pulseCheck, answerBy, changeBy, answerOf, after, numberOf, told}
+use Rattle.jobs.specs.declared.Job.{Job}
+use Rattle.jobs.specs.declared.Held.{Held}
+use Rattle.jobs.specs.Fields.{badUsed}
+use Rattle.jobs.specs.Calls.{isHeld, startCheck, badStep, stepCheck}
+use Rattle.jobs.specs.Totals.{badTotal, totalCheck}
+use Rattle.jobs.specs.Runs.{State}
+use Rattle.image.specs.declared.Scanned.{Scanned}
+use Rattle.image.specs.declared.Scanned.the-variants.{Sound, Broken}
+use Rattle.image.specs.Format.{imageOf}
+use Rattle.image.specs.Reading.{wordsIn, scanned}
+use Rattle.image.specs.Calls.{badJob, writeCheck, refuseBytes, readCheck}
 use Rattle.rounds.specs.declared.Verdict.{Verdict}
 use Rattle.rounds.specs.Round.{noBit, badBits, otherThan, shown, bitsCheck, showCheck, answerCheck, answeredAt, afterAnswer}
 
@@ -61,9 +73,9 @@ resolutionTable m =
     ∷ entry 3 (some (lowest (tooWide (m .width)) 0 (m .words)))
     ∷ []
 
--- `unfit` is what 8 judges of the call: X of show; X and F of an answer
-abbrev pub roundTable : Bool → Machine → List Entry
-roundTable unfit m =
+-- `unfit` is what 8 judges of the call
+abbrev pub unfitTable : Bool → Machine → List Entry
+unfitTable unfit m =
     entry 1 (badSize (length (m .words)) (length (m .responses)))
     ∷ entry 2 (badWidth (m .width))
     ∷ entry 3 (some (lowest (tooWide (m .width)) 0 (m .words)))
@@ -78,6 +90,23 @@ answerTable x f k m =
     ∷ entry 8 (badBits x f)
     ∷ entry 11 (otherThan k (shown x m))
     ∷ []
+
+abbrev pub writeTable : State → ℕ → List Entry
+writeTable s room =
+    entry 1 (badSize (length (s .machine .words)) (length (s .machine .responses)))
+    ∷ entry 2 (badWidth (s .machine .width))
+    ∷ entry 3 (some (lowest (tooWide (s .machine .width)) 0 (s .machine .words)))
+    ∷ entry 8 (badJob (s .machine .width) (s .held))
+    ∷ entry 10 (ltb room (length (imageOf s)))
+    ∷ []
+
+abbrev pub broken : Scanned → Bool
+broken Sound = false
+broken (Broken at) = true
+
+abbrev pub readTable : List ℕ → ℕ → ℕ → List Entry
+readTable bs words responses =
+    entry 9 (broken (scanned bs)) ∷ entry 10 (ltb words (wordsIn bs) || ltb responses (wordsIn bs)) ∷ []
 
 -- the number that a check gives, 0 if it is passed
 abbrev pub given : Check → ℕ
@@ -129,7 +158,7 @@ unfolding first
 one r true = refl
 one r false = refl
 
-pub show-given : (x : ℕ) (m : Machine) → given (showCheck x m) ≡ first (roundTable (noBit x) m)
+pub show-given : (x : ℕ) (m : Machine) → given (showCheck x m) ≡ first (unfitTable (noBit x) m)
 unfolding bitsCheck
 show-given x m = after-machine m (refuse Unfit (noBit x)) (entry 8 (noBit x) ∷ []) (one Unfit (noBit x))
 
@@ -149,6 +178,48 @@ answer-given x f k m =
     regroup (machineCheck m) (badBits x f) (otherThan k (shown x m))
     ∙ after-machine m (refuse Unfit (badBits x f) else refuse NotShown (otherThan k (shown x m))) (entry 8 (badBits x f) ∷ entry 11 (otherThan k (shown x m)) ∷ [])
     (eight-eleven (badBits x f) (otherThan k (shown x m)))
+
+pub start-given : (m : Machine) (h : Held) (o : Job) → given (startCheck m h o) ≡ first (unfitTable (isHeld h || badUsed (m .width) o) m)
+unfolding startCheck
+start-given m h o = after-machine m (refuse Unfit (isHeld h || badUsed (m .width) o)) (entry 8 (isHeld h || badUsed (m .width) o) ∷ []) (one Unfit (isHeld h || badUsed (m .width) o))
+
+pub step-given : (m : Machine) (h : Held) → given (stepCheck m h) ≡ first (unfitTable (badStep (m .width) h) m)
+unfolding stepCheck
+step-given m h = after-machine m (refuse Unfit (badStep (m .width) h)) (entry 8 (badStep (m .width) h) ∷ []) (one Unfit (badStep (m .width) h))
+
+twice : (c : Check) (b b′ : Bool) → given ((c else refuse Unfit b) else refuse Unfit b′) ≡ given (c else refuse Unfit (b || b′))
+twice Passed true b′ = refl
+twice Passed false b′ = refl
+twice (Refused r) b b′ = refl
+
+pub total-given : (m : Machine) (h : Held) → given (totalCheck m h) ≡ first (unfitTable (badStep (m .width) h || badTotal h) m)
+unfolding totalCheck stepCheck
+total-given m h =
+    twice (machineCheck m) (badStep (m .width) h) (badTotal h)
+    ∙ after-machine m (refuse Unfit (badStep (m .width) h || badTotal h)) (entry 8 (badStep (m .width) h || badTotal h) ∷ []) (one Unfit (badStep (m .width) h || badTotal h))
+
+eight-ten : (b b′ : Bool) → given (refuse Unfit b else refuse NoRoom b′) ≡ first (entry 8 b ∷ entry 10 b′ ∷ [])
+unfolding first
+eight-ten true b′ = refl
+eight-ten false true = refl
+eight-ten false false = refl
+
+pub write-given : (s : State) (room : ℕ) → given (writeCheck s room) ≡ first (writeTable s room)
+unfolding writeCheck
+write-given s room =
+    after-machine (s .machine) (refuse Unfit (badJob (s .machine .width) (s .held)) else refuse NoRoom (ltb room (length (imageOf s))))
+    (entry 8 (badJob (s .machine .width) (s .held)) ∷ entry 10 (ltb room (length (imageOf s))) ∷ [])
+    (eight-ten (badJob (s .machine .width) (s .held)) (ltb room (length (imageOf s))))
+
+nine-ten : (c : Scanned) (b : Bool) → given (refuseBytes c else refuse NoRoom b) ≡ first (entry 9 (broken c) ∷ entry 10 b ∷ [])
+unfolding first
+nine-ten Sound true = refl
+nine-ten Sound false = refl
+nine-ten (Broken at) b = refl
+
+pub read-given : (bs : List ℕ) (words responses : ℕ) → given (readCheck bs words responses) ≡ first (readTable bs words responses)
+unfolding readCheck
+read-given bs words responses = nine-ten (scanned bs) (ltb words (wordsIn bs) || ltb responses (wordsIn bs))
 
 -- ---- the answer tells that number
 
