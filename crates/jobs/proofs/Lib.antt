@@ -3,3 +3,5 @@ pub mod ByKind
 pub mod Fair
 pub mod Shifts
 pub mod Moves
+pub mod Taken
+pub mod Giving

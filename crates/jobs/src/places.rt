@@ -58,8 +58,14 @@ pub(crate) fn in_table(o: Job) -> bool
 
 // ---- "Starting a job sets its first place, and its unused fields to 0."
 
+// "In phase 0, i is a-1".
+pub(crate) fn top_place(s: Span) -> u8
+    ensures { λ r. ⌜ r ≡ s .width - 1 ⌝ }
+{
+    if s.width == 0 { 0 } else { s.width - 1 }
+}
+
 pub(crate) fn first_extreme(o: Job) -> Job
-    requires { ⌜ 0 < o .a .width ⌝ }
     ensures { λ r. ⌜ r ≡ places.firstFor greatest o ⌝ }
 {
     let mut q = o;
@@ -70,7 +76,7 @@ pub(crate) fn first_extreme(o: Job) -> Job
     q.b = none;
     q.p = none;
     q.phase = 0;
-    q.i = o.a.width - 1;
+    q.i = top_place(o.a);
     q.j = 0;
     q.c = 0;
     q
@@ -105,7 +111,6 @@ pub(crate) fn first_product(o: Job) -> Job
 }
 
 pub(crate) fn first_of(o: Job) -> Job
-    requires { ⌜ 0 < o .a .width ⌝ }
     ensures { λ r. ⌜ r ≡ places.first o ⌝ }
 {
     let kind = o.kind;
@@ -120,7 +125,6 @@ pub(crate) fn first_of(o: Job) -> Job
 
 // Where `total` is given.
 pub(crate) fn is_at_first(o: Job) -> bool
-    requires { ⌜ 0 < o .a .width ⌝ }
     ensures { λ r. ⌜ r ≡ atFirst o ⌝ }
 {
     let f = first_of(o);
