@@ -5,3 +5,6 @@ pub mod Shifts
 pub mod Moves
 pub mod Taken
 pub mod Giving
+pub mod Sums
+pub mod Extremes
+pub mod Telling

@@ -3,6 +3,7 @@
 mod commands;
 mod fields;
 mod places;
+pub mod totals;
 
 use machine::Answer;
 use machine::BitSlice;
