@@ -1,0 +1,127 @@
+-- The command of a job that number 8 does not turn down is never refused as a pulse, on a machine that 1 to 3 do not.
+-- Assumes nothing.
+use Prim.Native.Nat.{ℕ, zero, suc, _+_, _-_, _*_, _%_, _^_, _≤_, _<_}
+use mathlib.Core.Path.{_≡_, refl}
+use mathlib.Core.Bool.{Bool, true, false}
+use mathlib.Core.List.{List, [], _∷_}
+use native.Mathlib.Nat.{mod-lt}
+use native.Mathlib.Omega.{arith}
+use lib.Dec.{eqb}
+use lib.ListN.{length}
+use lib.Bits.{bitOr, or-lt}
+use lib.Pow.{pow-pos, pow-lt, pow-mono, shl-lt}
+use borrow.Author.Tests.{lt-leb}
+use Rattle.laws.specs.Bits.{bit, pick}
+use Rattle.laws.specs.Lists.{all}
+use Rattle.laws.proofs.Bits.{every-all, bit-none}
+use Rattle.machine.specs.declared.Panel.{Panel}
+use Rattle.machine.specs.declared.Check.the-variants.{Passed}
+use Rattle.machine.specs.Machine.{Machine, Syllable, syllables}
+use Rattle.machine.specs.Search.{code, orExact, oneCode, codeAt}
+use Rattle.machine.specs.Refusals.{tooWide, badPanel, badCodes, badLines, badAddress, machineCheck, pulseCheck}
+use Rattle.jobs.specs.declared.Span.{Span}
+use Rattle.jobs.specs.declared.Job.{Job}
+use Rattle.jobs.specs.declared.Command.{Command}
+use Rattle.jobs.specs.Fields.{Kind, greatest, smallest, scaledAdd, product, unknown, kindOf}
+use Rattle.jobs.specs.Places.{badHeld}
+use Rattle.jobs.specs.Commands.{look, plus, trial, second, bitOf, command}
+use Rattle.jobs.proofs.Fair.{Fair, fair, room-for, scaled-sum, product-sum}
+
+-- nothing of 4 to 7
+pub record Taken (n : ℕ) (k : Command) : Type 0 where
+  pub panel : badPanel n (k .panel) ≡ false
+  pub codes : badCodes n (k .panel) (k .lines) ≡ false
+  pub lines : badLines (k .lines) ≡ false
+  pub address : (m : ℕ) → badAddress m (k .panel) (k .lines) ≡ false
+
+narrow : (n x : ℕ) → x < 2 ^ n → tooWide n x ≡ false
+narrow n x h = lt-leb (2 ^ n) x h
+
+-- ---- a panel whose SC1 is 0 has no code but exact and don't care
+
+all-true : (f : Syllable → Bool) → ((y : Syllable) → f y ≡ true) → (ys : List Syllable) → all f ys ≡ true
+unfolding all
+all-true f h [] = refl
+all-true f h (y ∷ ys) = rw (h y) (all-true f h ys)
+
+exact-code : (b : ℕ) → orExact (code 0 b) ≡ true
+exact-code zero = refl
+exact-code (suc b) = refl
+
+one-code : (p : Panel) → p .sc1 ≡ 0 → (y : Syllable) → oneCode p y ≡ true
+unfolding oneCode
+one-code p e y =
+    rw (every-all (y .width) (λ j. orExact (codeAt p (y .low + j))) (λ j g. rw (e, bit-none (y .low + j)) (exact-code (bit (p .sc2) (y .low + j)))))
+
+-- ---- the two forms
+
+look-taken : (n key care t mask comp : ℕ) → mask < 2 ^ n → comp < 2 ^ n → Taken n (look key care t mask comp)
+unfolding badPanel badCodes badLines badAddress
+look-taken n key care t mask comp h g =
+    record {
+      panel = rw (narrow n comp g, narrow n mask h, narrow n 0 (pow-pos n));
+      codes = rw (all-true _ (one-code (look key care t mask comp .panel) refl) (syllables n 0));
+      lines = refl;
+      address = λ m. refl;
+    }
+
+plus-taken : (n y : ℕ) (s : Span) (v : ℕ) → 0 < s .width → s .low .0 + s .width ≤ n → v < 2 ^ s .width → Taken n (plus y s v)
+unfolding badPanel badCodes badLines badAddress
+plus-taken n y s v h g l =
+    let e : s .width + s .low .0 ≤ n = omega arith in
+    let a : v * 2 ^ s .low .0 < 2 ^ n = omega (arith, shl-lt (s .width) (s .low .0) l, pow-mono e) in
+    let b : 2 ^ (s .low .0 + s .width - 1) < 2 ^ n = pow-lt (omega arith) in
+    let c : 2 ^ (s .width + s .low .0) - 2 ^ s .low .0 < 2 ^ n = omega (arith, pow-mono e, pow-pos (s .low .0)) in
+    record {
+      panel = rw (narrow n (v * 2 ^ s .low .0) a, narrow n (2 ^ (s .low .0 + s .width - 1)) b, narrow n 0 (pow-pos n), narrow n (2 ^ (s .width + s .low .0) - 2 ^ s .low .0) c);
+      codes = refl;
+      lines = refl;
+      address = λ m. refl;
+    }
+
+-- ---- a job's command
+
+module _ (n : ℕ) (o : Job) where
+  quiet : (key care t : ℕ) → Taken n (look key care t 0 0)
+  quiet key care t = look-taken n key care t 0 0 (pow-pos n) (pow-pos n)
+
+  abbrev a-bit : ℕ
+  a-bit = bitOf (o .a) (o .i)
+
+  abbrev b-bit : ℕ
+  b-bit = bitOf (o .b) (o .j)
+
+  trial-taken : (k : Kind) → Fair n o k → Taken n (trial k o)
+  trial-taken greatest f = let h = pow-lt (room-for n o greatest f .a) in look-taken n (2 ^ o .x) (2 ^ o .x) (o .y) a-bit a-bit h h
+  trial-taken smallest f = look-taken n (2 ^ o .x) (2 ^ o .x) (o .y) a-bit 0 (pow-lt (room-for n o smallest f .a)) (pow-pos n)
+  trial-taken scaledAdd f = let h = pow-lt (room-for n o scaledAdd f .a) in look-taken n (o .key) (o .care) (o .y) a-bit a-bit h h
+  trial-taken product f =
+      let r = room-for n o product f in
+      let h = or-lt n a-bit b-bit (pow-lt (r .a)) (pow-lt (r .b)) in
+      look-taken n (o .key) (o .care) (o .y) (bitOr a-bit b-bit) (bitOr a-bit b-bit) h h
+  trial-taken unknown f = quiet 0 0 0
+
+  second-taken : (k : Kind) → Fair n o k → Taken n (second k o)
+  second-taken greatest f = quiet (2 ^ o .y) (2 ^ o .y) (o .x)
+  second-taken smallest f = quiet (2 ^ o .y) (2 ^ o .y) (o .x)
+  second-taken scaledAdd f =
+      let s = scaled-sum n o f in
+      plus-taken n (o .y) (o .p) (o .c * 2 ^ o .i % 2 ^ o .p .width) (s .some) (s .fits) (mod-lt _ (pow-pos (o .p .width)))
+  second-taken product f = let s = product-sum n o f in plus-taken n (o .y) (o .p) (2 ^ (o .i + o .j)) (s .some) (s .fits) (pow-lt (s .sum))
+  second-taken unknown f = quiet 0 0 0
+
+  either : (b : Bool) (x y : Command) → Taken n x → Taken n y → Taken n (pick b x y)
+  either true x y h g = h
+  either false x y h g = g
+
+  pub taken : badHeld n o ≡ false → Taken n (command o)
+  unfolding command
+  taken h =
+      let f = fair n o h in
+      either (eqb (o .phase) 0) _ _ (quiet (o .key) (o .care) (o .x))
+      (either (eqb (o .phase) 1) _ _ (trial-taken (kindOf (o .kind)) f) (second-taken (kindOf (o .kind)) f))
+
+pub passes : (m : Machine) (o : Job) → machineCheck m ≡ Passed → badHeld (m .width) o ≡ false → pulseCheck m (command o .panel) (command o .lines) ≡ Passed
+unfolding pulseCheck
+passes m o h g =
+    let t = taken (m .width) o g in rw (h, t .panel, t .codes, t .lines, t .address (length (m .words)))
