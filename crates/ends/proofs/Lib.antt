@@ -4,3 +4,8 @@ pub mod Shapes
 pub mod Looking
 pub mod Parts
 pub mod Adding
+pub mod Machines
+pub mod Steps
+pub mod Fields
+pub mod Passing
+pub mod Visits

@@ -11,6 +11,7 @@ use Rattle.laws.proofs.Digits.{mod-suc}
 use Rattle.laws.proofs.Bits.{shifted, number-is, same-bits, bits-same}
 use Rattle.jobs.specs.declared.Span.{Span}
 use Rattle.jobs.specs.Totals.{valueOf}
+use Rattle.ends.specs.Ends.{Outside}
 
 -- ---- the k bits from bit lo up, as a number
 
@@ -45,10 +46,7 @@ pub part-like : (lo k x y : ℕ) → ((i : ℕ) → i < k → bit x (lo + i) ≡
 unfolding part
 part-like lo k x y h = same-bits k (x / 2 ^ lo) (y / 2 ^ lo) (λ i g. sym (shifted x lo i) ∙ h i g ∙ shifted y lo i)
 
--- ---- bits outside a run
-
-abbrev pub Outside : Span → ℕ → Type 0
-Outside s i = (i < s .low .0) ⊎ (s .low .0 + s .width ≤ i)
+-- ---- a gain in a syllable
 
 -- the syllable gains v, modulo 2 to its width, and every bit outside it is as it was
 pub record Gains (s : Span) (v w e : ℕ) : Type 0 where

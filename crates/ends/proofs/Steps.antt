@@ -1,0 +1,64 @@
+-- Steps one after the other: each accepted, each one command's pulse.
+-- Assumes nothing.
+use Prim.Native.Nat.{ℕ, zero, suc, _+_, _<_}
+use mathlib.Core.Path.{_≡_, refl, sym, ap, ap₂, _∙_}
+use mathlib.Core.Bool.{Bool, true, false}
+use native.Mathlib.Omega.{arith}
+use Rattle.machine.specs.Machine.{Machine}
+use Rattle.machine.specs.Pulse.{countOf, pulsed}
+use Rattle.machine.proofs.Checks.{Sound}
+use Rattle.jobs.specs.declared.Job.{Job}
+use Rattle.jobs.specs.declared.Held.{Held}
+use Rattle.jobs.specs.declared.Held.the-variants.{Nothing, Holds}
+use Rattle.jobs.specs.declared.Stepped.the-variants as answer
+use Rattle.jobs.specs.Places.{badHeld, next}
+use Rattle.jobs.specs.Commands.{command}
+use Rattle.jobs.specs.Calls.{stepCheck, stepOf, afterStep}
+use Rattle.jobs.specs.Runs.{State, stepped, steps}
+use Rattle.ends.specs.Ends.{Gives}
+use Rattle.ends.proofs.Machines.{passes}
+
+abbrev pub on : Machine → Held → State
+on m h = record { machine = m; held = h }
+
+abbrev pub pulsedBy : Machine → Job → Machine
+pulsedBy m q = pulsed m (command q .panel) (command q .lines)
+
+abbrev pub countedBy : Machine → Job → ℕ
+countedBy m q = countOf m (command q .panel) (command q .lines)
+
+-- ---- one step of a held job that is in order, on a sound machine
+
+module _ (m : Machine) (q : Job) (s : Sound m) (f : badHeld (m .width) q ≡ false) where
+  answered : stepOf m (Holds q) ≡ answer.Gave (command q) (countedBy m q) (next q (countedBy m q))
+  unfolding stepOf stepCheck
+  answered = rw (passes m s, f)
+
+  pub one-step : stepped (on m (Holds q)) ≡ on (pulsedBy m q) (next q (countedBy m q))
+  unfolding stepped afterStep
+  one-step = rw answered
+
+  pub gives : Gives (on m (Holds q))
+  gives = record { job = q; holds = refl; answers = answered; pulse = ap (λ (z : State). z .machine) one-step }
+
+-- ---- k accepted steps from s to t
+
+pub data Run : ℕ → State → State → Type 0 where
+  stay : {s : State} → Run zero s s
+  then : {k : ℕ} {s t : State} → Gives s → Run k (stepped s) t → Run (suc k) s t
+
+pub run-ends : {k : ℕ} {s t : State} → Run k s t → steps k s ≡ t
+unfolding steps
+run-ends stay = refl
+run-ends (then g r) = run-ends r
+
+pub run-gives : {k : ℕ} {s t : State} → Run k s t → (j : ℕ) → j < k → Gives (steps j s)
+unfolding steps
+run-gives stay j h = absurd (omega arith)
+run-gives (then g r) zero h = g
+run-gives (then g r) (suc j) h = run-gives r j (omega arith)
+
+-- one step before the others
+pub step-then : (m : Machine) (q : Job) → Sound m → badHeld (m .width) q ≡ false → {k : ℕ} {t : State}
+    → Run k (on (pulsedBy m q) (next q (countedBy m q))) t → Run (suc k) (on m (Holds q)) t
+step-then m q s f {k} {t} r = then {k = k} {t = t} (gives m q s f) (rw (one-step m q s f) r)
