@@ -9,3 +9,7 @@ pub mod Steps
 pub mod Fields
 pub mod Passing
 pub mod Visits
+pub mod ScaledPlaces
+pub mod Starts
+pub mod Sums
+pub mod ScaledAdd

@@ -12,13 +12,13 @@ use Rattle.machine.specs.Pulse.{countOf, pulsed}
 use Rattle.jobs.specs.declared.Span.{Span}
 use Rattle.jobs.specs.declared.Job.{Job}
 use Rattle.jobs.specs.declared.Held.{Held}
-use Rattle.jobs.specs.declared.Held.the-variants.{Holds}
+use Rattle.jobs.specs.declared.Held.the-variants.{Nothing, Holds}
 use Rattle.jobs.specs.declared.Stepped.the-variants as answer
 use Rattle.jobs.specs.Places.{first, next}
 use Rattle.jobs.specs.Commands.{command}
 use Rattle.jobs.specs.Calls.{stepOf}
-use Rattle.jobs.specs.Totals.{valueOf}
-use Rattle.jobs.specs.Runs.{State, stepped}
+use Rattle.jobs.specs.Totals.{valueOf, pulses}
+use Rattle.jobs.specs.Runs.{State, stepped, steps}
 
 -- word k and its response
 abbrev pub word : Machine → ℕ → ℕ
@@ -48,6 +48,15 @@ pub record Gives (s : State) : Type 0 where
   pub answers : (let m = s .machine in let k = command job in let c = countOf m (k .panel) (k .lines) in
       stepOf m (s .held) ≡ answer.Gave k c (next job c))
   pub pulse : stepped s .machine ≡ pulsed (s .machine) (command job .panel) (command job .lines)
+
+-- after an accepted start every step before the last of the stated pulses, and the last itself, gives its command, and then the job is over
+pub record Course (m : Machine) (o : Job) : Type 0 where
+  pub gives : (k : ℕ) → k < pulses m (first o) → Gives (steps k (begun m o))
+  pub over : steps (pulses m (first o)) (begun m o) .held ≡ Nothing
+
+-- the machine at the job's end
+abbrev pub ended : Machine → Job → Machine
+ended m o = steps (pulses m (first o)) (begun m o) .machine
 
 -- ---- the ends: m is the machine at the start, e at the end
 
