@@ -13,3 +13,7 @@ pub mod ScaledPlaces
 pub mod Starts
 pub mod Sums
 pub mod ScaledAdd
+pub mod ProductPlaces
+pub mod Pairs
+pub mod ProductSums
+pub mod Product
