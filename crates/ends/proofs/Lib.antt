@@ -5,6 +5,7 @@ pub mod Looking
 pub mod Parts
 pub mod Adding
 pub mod Machines
+pub mod Searches
 pub mod Steps
 pub mod Fields
 pub mod Passing
@@ -17,3 +18,5 @@ pub mod ProductPlaces
 pub mod Pairs
 pub mod ProductSums
 pub mod Product
+pub mod Narrowing
+pub mod Best

@@ -6,11 +6,11 @@ use mathlib.Core.Bool.{Bool, true, false, _&&_}
 use native.Mathlib.Nat.{mod-add-mod, add-zero, zero-mul}
 use native.Mathlib.Omega.{arith}
 use lib.Dec.{eqb}
-use lib.ListN.{length}
+use mathlib.Core.List.{List}
+use lib.ListN.{length, getD}
 use Rattle.laws.specs.Bits.{bit, pick, digit}
 use Rattle.machine.specs.Machine.{Machine, responseBits, selected}
-use Rattle.machine.specs.Pulse.{pulsed, wordAfter, responseAfter, added}
-use Rattle.machine.specs.Search.{matches}
+use Rattle.machine.specs.Pulse.{pulsed, added}
 use Rattle.machine.proofs.Checks.{Sound}
 use Rattle.jobs.specs.declared.Span.{Span}
 use Rattle.jobs.specs.declared.Job.{Job}
@@ -19,10 +19,10 @@ use Rattle.jobs.specs.Commands.{look, plus}
 use Rattle.jobs.specs.Totals.{valueOf}
 use Rattle.ends.specs.Ends.{word, response, chosen, Outside, SameSize, Adds}
 use Rattle.ends.proofs.Agreeing.{agrees, selected-one, selected-like}
-use Rattle.ends.proofs.Looking.{look-matches, look-word, look-target, look-others}
 use Rattle.ends.proofs.Parts.{Gains, gains-none, gains-both, gains-like}
 use Rattle.ends.proofs.Adding.{plus-word, plus-response, plus-gains, plus-fits}
-use Rattle.ends.proofs.Machines.{pos, same, fits, words-length, responses-length, width-is, word-at, response-at, sound-after}
+use Rattle.ends.proofs.Machines.{same, fits, words-length, responses-length, width-is, word-at, response-at, sound-after}
+use Rattle.ends.proofs.Searches.{search-sound, search-size, search-words, search-target, search-others}
 use Rattle.ends.proofs.Fields.{Inside, Working}
 
 -- ---- sizes
@@ -109,35 +109,29 @@ module _ (o : Job) (m : Machine) (s : Sound m) (y-works : Working (o .care) (o .
   opened k = chosen m o k && opens (word m k)
 
   pub sound₁ : Sound m₁
-  sound₁ = sound-after m s (search .panel) (search .lines) (λ k w r h. rw (look-word (m .width) (o .key) (o .care) (o .y) mask mask k w r) h)
+  sound₁ = search-sound m s (o .key) (o .care) (o .y) mask mask (y-works .bit-lt)
 
-  width₁ : m₁ .width ≡ m .width
-  width₁ = width-is m s (search .panel) (search .lines)
+  size₁ : SameSize m m₁
+  size₁ = search-size m s (o .key) (o .care) (o .y) mask mask (y-works .bit-lt)
 
   module _ (k : ℕ) (l : k < length (m .words)) where
     also₁ : k < length (m₁ .words)
-    also₁ = omega (arith, words-length m s (search .panel) (search .lines))
+    also₁ = omega (arith, size₁ .words)
 
     word₁ : word m₁ k ≡ word m k
-    word₁ = word-at m s (search .panel) (search .lines) k l ∙ look-word (m .width) (o .key) (o .care) (o .y) mask mask k (word m k) (response m k)
+    word₁ = ap (λ (ws : List ℕ). getD ws k 0) (search-words m s (o .key) (o .care) (o .y) mask mask (y-works .bit-lt))
 
     target₁ : bit (response m₁ k) (o .y) ≡ digit (opened k)
-    target₁ =
-        rw (response-at m s (search .panel) (search .lines) k l)
-        (look-target (m .width) (o .key) (o .care) (o .y) mask mask k (word m k) (response m k) (y-works .bit-lt)
-        ∙ ap digit (look-matches (m .width) (o .key) (o .care) (o .y) mask mask (pos m s) (word m k) (response m k)
-        ∙ ap (λ (t : Bool). chosen m o k && t) (found (word m k))))
+    target₁ = search-target m s (o .key) (o .care) (o .y) mask mask (y-works .bit-lt) k l ∙ ap (λ (t : Bool). digit (chosen m o k && t)) (found (word m k))
 
     others₁ : (i : ℕ) → i < responseBits → (i ≡ o .y → ⊥) → bit (response m₁ k) i ≡ bit (response m k) i
-    others₁ i g f =
-        rw (response-at m s (search .panel) (search .lines) k l)
-        (look-others (m .width) (o .key) (o .care) (o .y) mask mask k (word m k) (response m k) i g f)
+    others₁ i g f = search-others m s (o .key) (o .care) (o .y) mask mask (y-works .bit-lt) k i l g f
 
     word₂ : word m₂ k ≡ pick (opened k) (added (m .width) (multiadd .panel) (word m k)) (word m k)
     word₂ =
         word-at m₁ sound₁ (multiadd .panel) (multiadd .lines) k also₁
         ∙ plus-word (m₁ .width) (o .y) (o .p) v k (word m₁ k) (response m₁ k)
-        ∙ rw (selected-one (o .y) (response m₁ k) (y-works .bit-lt), target₁, word₁, width₁, is-one (opened k)) refl
+        ∙ rw (selected-one (o .y) (response m₁ k) (y-works .bit-lt), target₁, word₁, size₁ .width, is-one (opened k)) refl
       where
         is-one : (b : Bool) → eqb (digit b) 1 ≡ b
         is-one true = refl
@@ -156,16 +150,16 @@ module _ (o : Job) (m : Machine) (s : Sound m) (y-works : Working (o .care) (o .
   sound₂ = sound-after m₁ sound₁ (multiadd .panel) (multiadd .lines) (λ k w r h. rw (plus-word (m₁ .width) (o .y) (o .p) v k w r) (go (selected (2 ^ o .y) (2 ^ o .y) r) w h))
     where
       go : (b : Bool) (w : ℕ) → w < 2 ^ m₁ .width → pick b (added (m₁ .width) (multiadd .panel) w) w < 2 ^ m₁ .width
-      go true w h = plus-fits (m₁ .width) (o .y) (o .p) v w (p .some) (rw width₁ (p .fits)) small h
+      go true w h = plus-fits (m₁ .width) (o .y) (o .p) v w (p .some) (rw (size₁ .width) (p .fits)) small h
       go false w h = h
 
   pub gate-adds : Adds o (λ w. digit (opens w) * v) m m₂
   gate-adds = record {
-    size = record {
-      width = width-is m₁ sound₁ (multiadd .panel) (multiadd .lines) ∙ width₁;
-      words = words-length m₁ sound₁ (multiadd .panel) (multiadd .lines) ∙ words-length m s (search .panel) (search .lines);
-      responses = responses-length m₁ sound₁ (multiadd .panel) (multiadd .lines) ∙ words-length m s (search .panel) (search .lines) ∙ sym (same m s);
-    };
+    size = size-both m m₁ m₂ size₁ (record {
+      width = width-is m₁ sound₁ (multiadd .panel) (multiadd .lines);
+      words = words-length m₁ sound₁ (multiadd .panel) (multiadd .lines);
+      responses = responses-length m₁ sound₁ (multiadd .panel) (multiadd .lines) ∙ sym (same m₁ sound₁);
+    });
     holds = λ k l c. let b : opened k ≡ opens (word m k) = rw c in rw (word₂ k l, b) (gained k l (opens (word m k)) .value);
     outside = λ k i l f. rw (word₂ k l) (gained k l (opened k) .others i f);
     unselected = λ k l c. let b : opened k ≡ false = rw c in rw (word₂ k l, b);
