@@ -20,3 +20,4 @@ pub mod ProductSums
 pub mod Product
 pub mod Narrowing
 pub mod Best
+pub mod Extreme

@@ -58,7 +58,7 @@ run-gives stay j h = absurd (omega arith)
 run-gives (then g r) zero h = g
 run-gives (then g r) (suc j) h = run-gives r j (omega arith)
 
--- one step before the others
-pub step-then : (m : Machine) (q : Job) → Sound m → badHeld (m .width) q ≡ false → {k : ℕ} {t : State}
+-- one step before the others, whose end is t
+pub step-then : (m : Machine) (q : Job) (t : State) → Sound m → badHeld (m .width) q ≡ false → {k : ℕ}
     → Run k (on (pulsedBy m q) (next q (countedBy m q))) t → Run (suc k) (on m (Holds q)) t
-step-then m q s f {k} {t} r = then {k = k} {t = t} (gives m q s f) (rw (one-step m q s f) r)
+step-then m q t s f {k} r = then {k = k} {t = t} (gives m q s f) (rw (one-step m q s f) r)

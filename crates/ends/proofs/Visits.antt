@@ -102,9 +102,9 @@ module _ (b : Job) (y-works : Working (b .care) (b .y)) where
       let second : badHeld (after₁ m q .width) (moved b 2 (q .i) (q .j)) ≡ false = rw (z .width₁, e) (r .0 .second-fits) in
       record {
         end = v .end;
-        run = rw l (step-then m (moved b 1 (q .i) (q .j)) s (g .first-fits)
+        run = rw l (step-then m (moved b 1 (q .i) (q .j)) (on (v .end) Nothing) s (g .first-fits)
             (rw (r .0 .onward (countedBy m (moved b 1 (q .i) (q .j))))
-            (step-then (after₁ m q) (moved b 2 (q .i) (q .j)) (z .sound₁) second
+            (step-then (after₁ m q) (moved b 2 (q .i) (q .j)) (on (v .end) Nothing) (z .sound₁) second
             (rw (r .1 (countedBy (after₁ m q) (moved b 2 (q .i) (q .j)))) (v .run)))));
         adds = adds-both b y-works _ (total qs) m (after₂ m q) (v .end) (total-kept n b qs (r .2)) (z .adds) (v .adds);
       }
