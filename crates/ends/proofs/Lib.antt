@@ -20,4 +20,7 @@ pub mod ProductSums
 pub mod Product
 pub mod Narrowing
 pub mod Best
+pub mod Trials
 pub mod Extreme
+pub mod Plans
+pub mod Greatest

@@ -7,8 +7,8 @@ use native.Mathlib.Nat.{mod-lt, mod-one, mod-mod, mod-add-mod, add-comm, add-zer
 use native.Mathlib.Omega.{arith}
 use lib.Pow.{pow-pos, pow-add, mod-pow-add, mod-mod-pow, high, low, split, shr-shr}
 use Rattle.laws.specs.Bits.{bit}
-use Rattle.laws.proofs.Digits.{mod-suc}
-use Rattle.laws.proofs.Bits.{shifted, number-is, same-bits, bits-same}
+use Rattle.laws.proofs.Digits.{mod-suc, bit-lt}
+use Rattle.laws.proofs.Bits.{shifted, digit-at, number-is, number-bit, same-bits, bits-same}
 use Rattle.jobs.specs.declared.Span.{Span}
 use Rattle.jobs.specs.Totals.{valueOf}
 use Rattle.ends.specs.Ends.{Outside}
@@ -54,8 +54,11 @@ pub record Gains (s : Span) (v w e : ℕ) : Type 0 where
   pub others : (i : ℕ) → Outside s i → bit e i ≡ bit w i
 
 module _ (s : Span) where
-  value-lt : (w : ℕ) → valueOf s w < 2 ^ s .width
+  pub value-lt : (w : ℕ) → valueOf s w < 2 ^ s .width
   value-lt w = rw (value-is s w) (part-lt (s .low .0) (s .width) w)
+
+  pub value-bit : (w i : ℕ) → i < s .width → bit (valueOf s w) i ≡ bit w (s .low .0 + i)
+  value-bit w i h = number-bit (s .width) _ (λ j g. bit-lt (digit-at w (s .low .0 + j))) i h
 
   pub gains-none : (w : ℕ) → Gains s 0 w w
   gains-none w = record { value = sym (ap (λ (x : ℕ). x % 2 ^ s .width) (add-zero (valueOf s w)) ∙ mod-eq-of-lt (value-lt w)); others = λ i h. refl }
