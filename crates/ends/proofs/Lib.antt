@@ -24,3 +24,5 @@ pub mod Trials
 pub mod Extreme
 pub mod Plans
 pub mod Greatest
+pub mod Smallest
+pub mod Ends
