@@ -1,16 +1,15 @@
 -- A job's multiadd on one word: P gains the addend in words with Y, and nothing else changes.
 -- Assumes nothing.
 use Prim.Native.Nat.{ℕ, zero, suc, _+_, _-_, _*_, _/_, _%_, _^_, _≤_, _<_}
-use mathlib.Core.Path.{_≡_, refl, sym, ap, ap₂, _∙_}
+use mathlib.Core.Path.{_≡_, refl, sym, ap, _∙_}
 use mathlib.Core.Bool.{Bool, true, false}
-use mathlib.Core.List.{List, [], _∷_}
 use native.Mathlib.Nat.{mod-lt, mod-eq-of-lt, div-one, div-eq-of-lt, add-comm, add-zero, zero-mod, add-mod-mod, mul-le-mul-right}
 use native.Mathlib.Omega.{arith}
-use lib.Pow.{pow-pos, pow-add, shl-lt, shl-shr, shr-lt, split}
+use lib.Pow.{pow-pos, pow-add, shl-lt, shl-shr, shr-lt}
 use lib.Bits.{bitAnd, and-high}
-use Rattle.laws.specs.Bits.{bit, number, pick}
+use Rattle.laws.specs.Bits.{bit, pick}
 use Rattle.laws.proofs.Bits.{shifted, number-is}
-use Rattle.machine.specs.Machine.{Syllable, over, tops, selected}
+use Rattle.machine.specs.Machine.{over, tops, selected}
 use Rattle.machine.specs.Pulse.{addend, sums, added, change, wordAfter, responseAfter}
 use Rattle.machine.proofs.Masks.{addend-is}
 use Rattle.jobs.specs.declared.Span.{Span}

@@ -1,14 +1,13 @@
 -- The greatest and the smallest of A's values in the selected words: a bound on each, and the value of one of them.
 -- Assumes nothing.
-use Prim.Native.Nat.{ℕ, zero, suc, _+_, _-_, _^_, _≤_, _<_, min, max}
-use mathlib.Core.Path.{_≡_, refl, sym, ap, ap₂, _∙_}
+use Prim.Native.Nat.{ℕ, zero, suc, _-_, _≤_, _<_, min, max}
+use mathlib.Core.Path.{_≡_, refl}
 use mathlib.Core.Bool.{Bool, true, false}
 use mathlib.Core.List.{List, [], _∷_}
 use native.Mathlib.Omega.{arith}
 use lib.Dec.{leb}
 use lib.ListN.{length, getD}
 use borrow.Author.Tests.{leb-true, leb-false}
-use Rattle.laws.specs.Bits.{digit}
 use Rattle.machine.specs.Machine.{selected}
 use Rattle.jobs.specs.declared.Job.{Job}
 use Rattle.jobs.specs.Totals.{valueOf, keepValue, values, greatestOf, smallestOf}

@@ -1,19 +1,21 @@
 -- Every kind of job: after an accepted start each step gives the held job's command until the stated pulses are given, and then the job is over.
 -- Assumes nothing.
-use Prim.Native.Nat.{ℕ, zero, suc, _+_, _≤_, _<_}
-use mathlib.Core.Path.{_≡_, refl, sym, ap, _∙_}
-use mathlib.Core.Bool.{Bool, true, false}
+use Prim.Native.Nat.{ℕ, zero, suc, _+_, _<_}
+use mathlib.Core.Path.{_≡_, refl, ap, _∙_}
 use native.Mathlib.Omega.{arith}
 use Rattle.machine.specs.Machine.{Machine}
+use Rattle.machine.specs.Pulse.{pulsed}
 use Rattle.jobs.specs.declared.Job.{Job}
 use Rattle.jobs.specs.declared.Held.{Held}
-use Rattle.jobs.specs.declared.Held.the-variants.{Nothing, Holds}
+use Rattle.jobs.specs.declared.Held.the-variants.{Nothing}
 use Rattle.jobs.specs.Fields.{Kind, greatest, smallest, scaledAdd, product, unknown, kindOf, badUsed}
 use Rattle.jobs.specs.Places.{first}
+use Rattle.jobs.specs.Commands.{command}
 use Rattle.jobs.specs.Totals.{pulses}
 use Rattle.jobs.specs.Runs.{State, stepped, steps, goOn, stepsTaken}
-use Rattle.ends.specs.Ends.{begun, Gives, Course}
-use Rattle.ends.proofs.Starts.{Accepted, begins}
+use Rattle.ends.specs.Ends.{Accepted, begun, Gives, Course, ended}
+use Rattle.ends.proofs.Steps.{on, steps-on, steps-last, steps-idle}
+use Rattle.ends.proofs.Starts.{begins}
 use Rattle.ends.proofs.Greatest.{greatest-course}
 use Rattle.ends.proofs.Smallest.{smallest-course}
 use Rattle.ends.proofs.ScaledAdd.{scaled-add-course}
@@ -34,6 +36,18 @@ module _ (m : Machine) (o : Job) (accepted : Accepted m o) where
   -- not over before the last pulse
   pub not-over : (k : ℕ) → k < pulses m (first o) → steps k (begun m o) .held ≡ Nothing → ⊥
   not-over k h e = let g = course .gives k h in let z : _≡_ {A = ℕ} 0 1 = cc (g .holds) in absurd (omega arith)
+
+  -- "A job step answers the command it gave, and the machine after it is that command's pulse": each machine is the pulse of the one before it
+  pub each-pulse : (k : ℕ) (h : k < pulses m (first o)) → (let q = course .gives k h .job in
+      steps (suc k) (begun m o) .machine ≡ pulsed (steps k (begun m o) .machine) (command q .panel) (command q .lines))
+  each-pulse k h = ap (λ (s : State). s .machine) (steps-last k (begun m o)) ∙ course .gives k h .pulse
+
+  -- further steps are refused, and change nothing
+  pub stays-over : (k : ℕ) → steps (pulses m (first o) + k) (begun m o) ≡ on (ended m o) Nothing
+  stays-over k =
+      steps-on (pulses m (first o)) k (begun m o)
+      ∙ ap (λ (h : Held). steps k (on (ended m o) h)) (course .over)
+      ∙ steps-idle k (ended m o)
 
   -- the number of steps given until no job is held
   taken : (k most : ℕ) (s : State) → ((j : ℕ) → j < k → Gives (steps j s)) → steps k s .held ≡ Nothing → k < most → stepsTaken most s ≡ k

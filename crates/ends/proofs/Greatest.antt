@@ -1,30 +1,29 @@
 -- Greatest of A: X marks the selected words with the greatest value, after 1 + a pulses and one for each 1 of that value.
 -- Assumes nothing.
-use Prim.Native.Nat.{ℕ, zero, suc, _+_, _-_, _^_, _≤_, _<_}
+use Prim.Native.Nat.{ℕ, _+_, _-_, _^_, _<_}
 use mathlib.Core.Path.{_≡_, refl, sym, ap, ap₂, _∙_}
-use mathlib.Core.Bool.{Bool, true, false, _&&_}
+use mathlib.Core.Bool.{false}
 use native.Mathlib.Nat.{div-one}
 use native.Mathlib.Omega.{arith}
 use lib.Dec.{eqb}
-use lib.ListN.{length}
 use lib.Pow.{pow-pos}
-use Rattle.laws.specs.Bits.{bit, digit}
+use Rattle.laws.specs.Bits.{bit}
 use Rattle.machine.specs.Machine.{Machine}
 use Rattle.jobs.specs.declared.Job.{Job}
 use Rattle.jobs.specs.Fields.{greatest, kindOf, badExtreme, badUsed}
 use Rattle.jobs.specs.Places.{first}
 use Rattle.jobs.specs.Commands.{bitOf}
 use Rattle.jobs.specs.Totals.{ones, valueOf, values, greatestOf, pulses}
-use Rattle.ends.specs.Ends.{word, response, chosen, Course, ended, Marks}
+use Rattle.ends.specs.Ends.{Accepted, word, Course, ended, Marks}
 use Rattle.ends.proofs.Agreeing.{agrees, agrees-one, one-here}
 use Rattle.ends.proofs.Parts.{value-lt, value-bit}
 use Rattle.ends.proofs.Machines.{same}
 use Rattle.ends.proofs.Fields.{ExtremeFields, extreme-fields}
-use Rattle.ends.proofs.Best.{Has, greatest-bounds, greatest-has, greatest-lt, values-like}
+use Rattle.ends.proofs.Best.{greatest-bounds, greatest-has, greatest-lt, values-like}
 use Rattle.ends.proofs.Trials.{Best}
 use Rattle.ends.proofs.Extreme.{Ended, extreme-ends}
-use Rattle.ends.proofs.Plans.{most, held, wanted, first-is, plan}
-use Rattle.ends.proofs.Starts.{Accepted, Begun, begins, Whole, whole-course, whole-ended}
+use Rattle.ends.proofs.Plans.{most, held, first-is, plan}
+use Rattle.ends.proofs.Starts.{begins, Whole, whole-course, whole-ended}
 
 module _ (m : Machine) (o : Job) (accepted : Accepted m o) (kind : kindOf (o .kind) ≡ greatest) where
   -- the greatest of A's values in the selected words
@@ -67,7 +66,7 @@ module _ (m : Machine) (o : Job) (accepted : Accepted m o) (kind : kindOf (o .ki
 
   -- every step gives its command until the job is over
   pub greatest-course : Course m o
-  greatest-course = whole-course m o (done .end) whole
+  greatest-course = whole-course m o (done .end) whole (done .narrow .sound)
 
   -- "X marks exactly the selected words with the extreme value."
   pub greatest-ends : Marks o top m (ended m o)

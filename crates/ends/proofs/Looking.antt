@@ -1,22 +1,20 @@
 -- A job's search on one word: it matches if it is selected and has COMP's bits at the mask; it sets the target bit alone.
 -- Assumes nothing.
-use Prim.Native.Nat.{ℕ, zero, suc, _+_, _*_, _^_, _<_}
+use Prim.Native.Nat.{ℕ, _+_, _^_, _<_}
 use mathlib.Core.Path.{_≡_, refl, sym, ap, ap₂, _∙_}
 use mathlib.Core.Bool.{Bool, true, false, _&&_, _||_, and-true, or-true}
-use mathlib.Core.List.{List, [], _∷_}
 use native.Mathlib.Nat.{mod-eq-of-lt, zero-add}
 use native.Mathlib.Omega.{arith}
 use lib.Dec.{eqb}
-use borrow.Author.Tests.{eq-eqb, ne-eqb, eqb-true, eqb-false}
-use Rattle.laws.specs.Bits.{bit, number, every, pick, digit}
+use Rattle.laws.specs.Bits.{bit, every, pick, digit}
 use Rattle.laws.specs.Lists.{all}
 use Rattle.laws.proofs.Digits.{Bit, off, on, bit-lt}
 use Rattle.laws.proofs.Bits.{digit-at, number-lt, number-bit, every-like, every-all, every-at, every-eqb, bit-none}
-use Rattle.machine.specs.Machine.{responseBits, selected, syllables}
+use Rattle.machine.specs.Machine.{responseBits, selected}
 use Rattle.machine.specs.Search.{code, codeAt, cared, asks, readOver, satisfied, matches, marked}
-use Rattle.machine.specs.Pulse.{wordAfter, responseAfter, counts}
-use Rattle.jobs.specs.Commands.{look, searchLine}
-use Rattle.ends.proofs.Agreeing.{agrees, every-no, one-here, one-there}
+use Rattle.machine.specs.Pulse.{wordAfter, responseAfter}
+use Rattle.jobs.specs.Commands.{look}
+use Rattle.ends.proofs.Agreeing.{agrees, one-here, one-there}
 use Rattle.ends.proofs.Shapes.{from, whole}
 
 -- ---- one syllable with exact bits and don't-care bits: agreement under the mask

@@ -1,7 +1,7 @@
 -- Narrowing to the greatest, place by place: a number at most g is g from bit i up exactly if it is so from bit i + 1 up and, where g has bit i, has it too.
 -- Assumes nothing.
-use Prim.Native.Nat.{ℕ, zero, suc, _+_, _*_, _/_, _%_, _^_, _≤_, _<_}
-use mathlib.Core.Path.{_≡_, refl, sym, ap, _∙_}
+use Prim.Native.Nat.{ℕ, suc, _+_, _*_, _/_, _^_, _≤_, _<_}
+use mathlib.Core.Path.{_≡_, refl, sym, _∙_}
 use mathlib.Core.Bool.{Bool, true, false, _&&_}
 use native.Mathlib.Nat.{div-eq-of-lt}
 use native.Mathlib.Omega.{arith}
@@ -10,8 +10,6 @@ use lib.Dec.{eqb}
 use lib.Pow.{shr-shr, shr-mono, split}
 use borrow.Author.Tests.{eq-eqb, ne-eqb, eqb-true, eqb-false}
 use Rattle.laws.specs.Bits.{bit}
-use Rattle.laws.proofs.Digits.{bit-lt}
-use Rattle.laws.proofs.Bits.{digit-at}
 
 -- from bit i up x is as g
 abbrev pub same : ℕ → ℕ → ℕ → Bool

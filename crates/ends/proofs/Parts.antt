@@ -1,11 +1,11 @@
 -- A run of bits of a number, and the number with that run replaced.
 -- Assumes nothing.
-use Prim.Native.Nat.{ℕ, zero, suc, _+_, _-_, _*_, _/_, _%_, _^_, _≤_, _<_}
-use mathlib.Core.Path.{_≡_, refl, sym, ap, ap₂, _∙_}
-use mathlib.Core.Logic.{_⊎_, inl, inr, ⊎-elim}
-use native.Mathlib.Nat.{mod-lt, mod-one, mod-mod, mod-add-mod, add-comm, add-zero, mod-eq-of-lt}
+use Prim.Native.Nat.{ℕ, suc, _+_, _-_, _*_, _/_, _%_, _^_, _≤_, _<_}
+use mathlib.Core.Path.{_≡_, refl, sym, ap, _∙_}
+use mathlib.Core.Logic.{_⊎_, ⊎-elim}
+use native.Mathlib.Nat.{mod-lt, mod-one, add-comm, add-zero, mod-eq-of-lt}
 use native.Mathlib.Omega.{arith}
-use lib.Pow.{pow-pos, pow-add, mod-pow-add, mod-mod-pow, high, low, split, shr-shr}
+use lib.Pow.{pow-pos, pow-add, mod-pow-add, mod-mod-pow, high, low, shr-shr}
 use Rattle.laws.specs.Bits.{bit}
 use Rattle.laws.proofs.Digits.{mod-suc, bit-lt}
 use Rattle.laws.proofs.Bits.{shifted, digit-at, number-is, number-bit, same-bits, bits-same}
@@ -62,17 +62,6 @@ module _ (s : Span) where
 
   pub gains-none : (w : ℕ) → Gains s 0 w w
   gains-none w = record { value = sym (ap (λ (x : ℕ). x % 2 ^ s .width) (add-zero (valueOf s w)) ∙ mod-eq-of-lt (value-lt w)); others = λ i h. refl }
-
-  pub gains-both : (u v w d e : ℕ) → Gains s u w d → Gains s v d e → Gains s (u + v) w e
-  gains-both u v w d e g h =
-      let z : valueOf s w + u + v ≡ valueOf s w + (u + v) = omega arith in
-      record {
-        value = h .value ∙ ap (λ (x : ℕ). (x + v) % 2 ^ s .width) (g .value) ∙ mod-add-mod (valueOf s w + u) (2 ^ s .width) v ∙ ap (λ (x : ℕ). x % 2 ^ s .width) z;
-        others = λ i o. h .others i o ∙ g .others i o;
-      }
-
-  pub gains-like : (u v w e : ℕ) → (valueOf s w + u) % 2 ^ s .width ≡ (valueOf s w + v) % 2 ^ s .width → Gains s u w e → Gains s v w e
-  gains-like u v w e z g = record { value = g .value ∙ z; others = g .others }
 
 -- ---- an add in a syllable that runs from the run's top bit down to bit 0, of an addend with the run's bits alone, is an add in the run
 

@@ -1,9 +1,9 @@
 -- The end of an adding job, pulse by pulse: gains add up, and a search with its multiadd is one gain.
 -- Assumes nothing.
-use Prim.Native.Nat.{ℕ, zero, suc, _+_, _*_, _%_, _^_, _≤_, _<_}
+use Prim.Native.Nat.{ℕ, _+_, _*_, _%_, _^_, _<_}
 use mathlib.Core.Path.{_≡_, refl, sym, ap, ap₂, _∙_}
 use mathlib.Core.Bool.{Bool, true, false, _&&_}
-use native.Mathlib.Nat.{mod-add-mod, add-zero, zero-mul}
+use native.Mathlib.Nat.{mod-add-mod, zero-mul}
 use native.Mathlib.Omega.{arith}
 use lib.Dec.{eqb}
 use mathlib.Core.List.{List}
@@ -12,14 +12,13 @@ use Rattle.laws.specs.Bits.{bit, pick, digit}
 use Rattle.machine.specs.Machine.{Machine, responseBits, selected}
 use Rattle.machine.specs.Pulse.{pulsed, added}
 use Rattle.machine.proofs.Checks.{Sound}
-use Rattle.jobs.specs.declared.Span.{Span}
 use Rattle.jobs.specs.declared.Job.{Job}
 use Rattle.jobs.specs.declared.Command.{Command}
 use Rattle.jobs.specs.Commands.{look, plus}
 use Rattle.jobs.specs.Totals.{valueOf}
 use Rattle.ends.specs.Ends.{word, response, chosen, Outside, SameSize, Adds}
 use Rattle.ends.proofs.Agreeing.{agrees, selected-one, selected-like}
-use Rattle.ends.proofs.Parts.{Gains, gains-none, gains-both, gains-like}
+use Rattle.ends.proofs.Parts.{Gains, gains-none}
 use Rattle.ends.proofs.Adding.{plus-word, plus-response, plus-gains, plus-fits}
 use Rattle.ends.proofs.Machines.{same, fits, words-length, responses-length, width-is, word-at, response-at, sound-after}
 use Rattle.ends.proofs.Searches.{search-sound, search-size, search-words, search-target, search-others}

@@ -1,19 +1,18 @@
 -- The commands and places of greatest and smallest: the same but for the bit that a trial wants.
 -- Assumes nothing.
 use Prim.Native.Nat.{ℕ, zero, suc, _+_, _-_, _^_, _<_}
-use mathlib.Core.Path.{_≡_, refl, sym, ap, _∙_}
-use mathlib.Core.Bool.{Bool, true, false, _&&_, _||_, or-true}
+use mathlib.Core.Path.{_≡_, refl, ap, _∙_}
+use mathlib.Core.Bool.{true, false, _&&_, _||_, or-true}
 use native.Mathlib.Omega.{arith}
 use lib.Dec.{ltb, eqb}
-use borrow.Author.Tests.{eq-eqb, lt-ltb, eqb-true}
+use borrow.Author.Tests.{eq-eqb, lt-ltb}
 use Rattle.laws.specs.Bits.{pick}
 use Rattle.jobs.specs.declared.Job.{Job}
-use Rattle.jobs.specs.declared.Held.{Held}
-use Rattle.jobs.specs.declared.Held.the-variants.{Nothing, Holds}
+use Rattle.jobs.specs.declared.Held.the-variants.{Holds}
 use Rattle.jobs.specs.Fields.{Kind, greatest, smallest, scaledAdd, product, unknown, kindOf, badExtreme, badUsedFor, badUsed, unusedZeroFor, unusedZero}
 use Rattle.jobs.specs.Places.{inTableFor, inTable, badHeld, first, firstFor, moved, nextBelow, afterTrial, afterSecond, next}
 use Rattle.jobs.specs.Commands.{command, look, bitOf, trial, second}
-use Rattle.ends.proofs.Fields.{ExtremeFields, extreme-fields}
+use Rattle.ends.proofs.Fields.{extreme-fields}
 use Rattle.ends.proofs.Trials.{below-is, Plan}
 
 -- the two kinds

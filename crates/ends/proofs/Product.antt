@@ -1,29 +1,26 @@
 -- Product: "P becomes P+A·B", after twice the number of pairs i, j with i+j below p.
 -- Assumes nothing.
-use Prim.Native.Nat.{ℕ, zero, suc, _+_, _*_, _%_, _^_, _<_, min}
-use mathlib.Core.Path.{_≡_, refl, sym, ap, ap₂, _∙_}
-use mathlib.Core.Bool.{Bool, true, false}
+use Prim.Native.Nat.{ℕ, zero, suc, _+_, _*_, _<_}
+use mathlib.Core.Path.{_≡_, refl}
+use mathlib.Core.Bool.{false}
 use native.Mathlib.Omega.{arith}
 use lib.Dec.{ltb}
-use lib.ListN.{length}
 use Rattle.laws.specs.Bits.{digit}
 use Rattle.machine.specs.Machine.{Machine}
 use Rattle.jobs.specs.declared.Job.{Job}
-use Rattle.jobs.specs.declared.Held.{Held}
-use Rattle.jobs.specs.declared.Held.the-variants.{Nothing, Holds}
+use Rattle.jobs.specs.declared.Held.the-variants.{Holds}
 use Rattle.jobs.specs.Fields.{product, kindOf, badScaledAdd, badProduct, badUsed}
 use Rattle.jobs.specs.Places.{first, firstFor, moved}
 use Rattle.jobs.specs.Totals.{sumBelow, valueOf, pulses}
-use Rattle.ends.specs.Ends.{begun, Course, ended, Adds}
+use Rattle.ends.specs.Ends.{Accepted, Course, ended, Adds}
 use Rattle.ends.proofs.Fields.{ProductFields, product-fields}
-use Rattle.ends.proofs.Steps.{on, Run}
 use Rattle.ends.proofs.Passing.{adds-like}
-use Rattle.ends.proofs.Visits.{Stop, total, start, Visited, visits}
+use Rattle.ends.proofs.Visits.{start, Visited, visits}
 use Rattle.ends.proofs.ScaledPlaces.{lesser}
 use Rattle.ends.proofs.ProductPlaces.{rowOf, rows, starts-row, product-route}
 use Rattle.ends.proofs.Pairs.{pairs-are}
 use Rattle.ends.proofs.ProductSums.{product-sum}
-use Rattle.ends.proofs.Starts.{Accepted, Begun, begins, Whole, whole-course, whole-ended}
+use Rattle.ends.proofs.Starts.{begins, Whole, whole-course, whole-ended}
 
 -- the job held after the start
 abbrev held : Job → Job
@@ -64,7 +61,7 @@ module _ (m : Machine) (o : Job) (accepted : Accepted m o) (kind : kindOf (o .ki
 
   -- every step gives its command until the job is over
   pub product-course : Course m o
-  product-course = whole-course m o (visited .end) whole
+  product-course = whole-course m o (visited .end) whole (visited .sound)
 
   -- "P holds the stated value in selected words; all other data bits, and response bits but the job's working ones, are unchanged."
   pub product-ends : Adds o (λ w. valueOf (o .a) w * valueOf (o .b) w) m (ended m o)

@@ -1,9 +1,9 @@
 -- What the places of a product add up to: A times B, modulo 2 to P's width.
 -- Assumes nothing.
 use Prim.Native.Nat.{ℕ, zero, suc, _+_, _-_, _*_, _/_, _%_, _^_, _≤_, _<_}
-use mathlib.Core.Path.{_≡_, refl, sym, ap, ap₂, _∙_}
+use mathlib.Core.Path.{_≡_, refl, ap, _∙_}
 use mathlib.Core.Bool.{Bool, true, false, _&&_}
-use mathlib.Core.List.{List, [], _∷_}
+use mathlib.Core.List.{List}
 use native.Mathlib.Nat.{mod-add-div, add-mul-mod-self-right, mul-zero, zero-mul, pow-suc}
 use native.Mathlib.Omega.{arith}
 use lib.Dec.{eqb, leb}

@@ -1,26 +1,23 @@
 -- Scaled add: "P becomes P+c·A", after 2·min(a,p) pulses.
 -- Assumes nothing.
 use Prim.Native.Nat.{ℕ, zero, suc, _+_, _*_, _%_, _^_, _<_, min}
-use mathlib.Core.Path.{_≡_, refl, sym, ap, ap₂, _∙_}
-use mathlib.Core.Bool.{Bool, true, false}
+use mathlib.Core.Path.{_≡_, refl, _∙_}
+use mathlib.Core.Bool.{false}
 use native.Mathlib.Omega.{arith}
-use lib.ListN.{length}
 use Rattle.machine.specs.Machine.{Machine}
 use Rattle.jobs.specs.declared.Job.{Job}
-use Rattle.jobs.specs.declared.Held.{Held}
-use Rattle.jobs.specs.declared.Held.the-variants.{Nothing, Holds}
+use Rattle.jobs.specs.declared.Held.the-variants.{Holds}
 use Rattle.jobs.specs.Fields.{scaledAdd, kindOf, badScaledAdd, badUsed}
 use Rattle.jobs.specs.Places.{first, firstFor, moved}
 use Rattle.jobs.specs.Totals.{valueOf, pulses}
-use Rattle.ends.specs.Ends.{begun, Course, ended, Adds}
+use Rattle.ends.specs.Ends.{Accepted, Course, ended, Adds}
 use Rattle.ends.proofs.Fields.{AddFields, add-fields}
-use Rattle.ends.proofs.Steps.{on, Run}
 use Rattle.ends.proofs.Passing.{adds-like}
 use Rattle.ends.proofs.Parts.{part}
-use Rattle.ends.proofs.Visits.{Stop, total, start, Visited, visits}
+use Rattle.ends.proofs.Visits.{total, start, Visited, visits}
 use Rattle.ends.proofs.ScaledPlaces.{ups, lesser, ups-length, scaled-route}
 use Rattle.ends.proofs.Sums.{scaled-sum, cut-a}
-use Rattle.ends.proofs.Starts.{Accepted, Begun, begins, Whole, whole-course, whole-ended}
+use Rattle.ends.proofs.Starts.{begins, Whole, whole-course, whole-ended}
 
 -- the job held after the start
 abbrev held : Job → Job
@@ -68,7 +65,7 @@ module _ (m : Machine) (o : Job) (accepted : Accepted m o) (kind : kindOf (o .ki
 
   -- every step gives its command until the job is over
   pub scaled-add-course : Course m o
-  scaled-add-course = whole-course m o (visited .end) whole
+  scaled-add-course = whole-course m o (visited .end) whole (visited .sound)
 
   -- "P holds the stated value in selected words; all other data bits, and response bits but the job's working ones, are unchanged."
   pub scaled-add-ends : Adds o (λ w. o .c * valueOf (o .a) w) m (ended m o)

@@ -1,16 +1,15 @@
 -- A job's search on the whole machine, and the count that its pulse answers.
 -- Assumes nothing.
-use Prim.Native.Nat.{ℕ, zero, suc, _+_, _<_}
-use mathlib.Core.Path.{_≡_, refl, sym, ap, ap₂, _∙_}
+use Prim.Native.Nat.{ℕ, zero, suc, _<_}
+use mathlib.Core.Path.{_≡_, refl, sym, ap, _∙_}
 use mathlib.Core.Bool.{Bool, true, false, _&&_}
 use mathlib.Core.List.{List, [], _∷_}
 use native.Mathlib.Omega.{arith}
 use lib.ListN.{length, getD}
-use Rattle.laws.specs.Bits.{bit, pick, digit}
+use Rattle.laws.specs.Bits.{bit, digit}
 use Rattle.laws.specs.Lists.{count}
 use Rattle.laws.proofs.Lists.{zip-kept}
 use Rattle.machine.specs.Machine.{Machine, responseBits, selected}
-use Rattle.machine.specs.Search.{matches}
 use Rattle.machine.specs.Pulse.{counts, countOf, pulsed}
 use Rattle.machine.proofs.Checks.{Sound}
 use Rattle.jobs.specs.declared.Command.{Command}

@@ -1,14 +1,13 @@
 -- Smallest of A: X marks the selected words with the smallest value, after 1 + a pulses and one for each 0 of that value.
 -- The smallest is the greatest of the values' complements within A's width.
 -- Assumes nothing.
-use Prim.Native.Nat.{ℕ, zero, suc, _+_, _-_, _^_, _≤_, _<_}
+use Prim.Native.Nat.{ℕ, _+_, _-_, _^_, _≤_, _<_}
 use mathlib.Core.Path.{_≡_, refl, sym, ap, ap₂, _∙_}
 use mathlib.Core.Bool.{Bool, true, false, _&&_}
 use mathlib.Core.List.{List}
 use native.Mathlib.Nat.{div-one}
 use native.Mathlib.Omega.{arith}
 use lib.Dec.{eqb}
-use lib.ListN.{length}
 use lib.Pow.{pow-pos}
 use borrow.Author.Tests.{eq-eqb, ne-eqb, eqb-true, eqb-false}
 use Rattle.laws.specs.Bits.{bit, digit}
@@ -20,17 +19,17 @@ use Rattle.jobs.specs.Fields.{smallest, kindOf, badExtreme, badUsed}
 use Rattle.jobs.specs.Places.{first}
 use Rattle.jobs.specs.Commands.{bitOf}
 use Rattle.jobs.specs.Totals.{ones, zeros, valueOf, values, smallestOf, pulses}
-use Rattle.ends.specs.Ends.{word, response, chosen, Course, ended, Marks}
+use Rattle.ends.specs.Ends.{Accepted, word, chosen, Course, ended, Marks}
 use Rattle.ends.proofs.Agreeing.{agrees, agrees-one}
 use Rattle.ends.proofs.Parts.{value-lt, value-bit}
 use Rattle.ends.proofs.Machines.{same}
 use Rattle.ends.proofs.Pairs.{sum-like}
 use Rattle.ends.proofs.Fields.{ExtremeFields, extreme-fields}
-use Rattle.ends.proofs.Best.{Has, smallest-le, smallest-bounds, smallest-has, values-like}
+use Rattle.ends.proofs.Best.{smallest-le, smallest-bounds, smallest-has, values-like}
 use Rattle.ends.proofs.Trials.{Best}
 use Rattle.ends.proofs.Extreme.{Ended, extreme-ends}
 use Rattle.ends.proofs.Plans.{least, held, wanted, first-is, plan}
-use Rattle.ends.proofs.Starts.{Accepted, Begun, begins, Whole, whole-course, whole-ended}
+use Rattle.ends.proofs.Starts.{begins, Whole, whole-course, whole-ended}
 
 flip : {b : ℕ} → Bit b → eqb b 0 ≡ eqb (1 - b) 1
 flip off = refl
@@ -101,7 +100,7 @@ module _ (m : Machine) (o : Job) (accepted : Accepted m o) (kind : kindOf (o .ki
 
   -- every step gives its command until the job is over
   pub smallest-course : Course m o
-  smallest-course = whole-course m o (done .end) whole
+  smallest-course = whole-course m o (done .end) whole (done .narrow .sound)
 
   -- "X marks exactly the selected words with the extreme value."
   pub smallest-ends : Marks o bottom m (ended m o)

@@ -1,32 +1,26 @@
 -- An extreme at one place: the trial search, and the narrowing of X where it found any.
 -- Assumes nothing.
-use Prim.Native.Nat.{ℕ, zero, suc, _+_, _*_, _/_, _^_, _≤_, _<_}
+use Prim.Native.Nat.{ℕ, zero, suc, _^_, _≤_, _<_}
 use mathlib.Core.Path.{_≡_, refl, sym, ap, ap₂, _∙_}
 use mathlib.Core.Bool.{Bool, true, false, _&&_, _||_, and-true}
-use mathlib.Core.List.{List, [], _∷_}
-use native.Mathlib.Nat.{div-one}
+use mathlib.Core.List.{List}
 use native.Mathlib.Omega.{arith}
 use lib.Dec.{eqb}
 use lib.ListN.{length, getD}
-use borrow.Author.Tests.{eq-eqb, ne-eqb}
 use Rattle.laws.specs.Bits.{bit, pick, digit}
-use Rattle.laws.proofs.Digits.{Bit, off, on as lit}
-use Rattle.laws.proofs.Bits.{digit-at, bit-none}
+use Rattle.laws.proofs.Bits.{bit-none}
 use Rattle.machine.specs.Machine.{Machine, responseBits, selected}
 use Rattle.machine.proofs.Checks.{Sound}
 use Rattle.jobs.specs.declared.Job.{Job}
-use Rattle.jobs.specs.declared.Held.{Held}
-use Rattle.jobs.specs.declared.Held.the-variants.{Nothing, Holds}
+use Rattle.jobs.specs.declared.Held.the-variants.{Holds}
 use Rattle.jobs.specs.Places.{badHeld, moved, nextBelow, next}
 use Rattle.jobs.specs.Commands.{command, look, bitOf}
-use Rattle.jobs.specs.Totals.{sumBelow, ones}
-use Rattle.jobs.specs.Runs.{State}
 use Rattle.ends.specs.Ends.{word, response, chosen, SameSize}
 use Rattle.ends.proofs.Agreeing.{agrees, agrees-none, selected-one}
 use Rattle.ends.proofs.Searches.{search-sound, search-size, search-words, search-target, search-others, search-none, search-some}
-use Rattle.ends.proofs.Steps.{on, pulsedBy, countedBy, Run, stay, then, step-then}
-use Rattle.ends.proofs.Fields.{Inside, Working, ExtremeFields}
-use Rattle.ends.proofs.Passing.{size-none, size-both}
+use Rattle.ends.proofs.Steps.{pulsedBy, countedBy}
+use Rattle.ends.proofs.Fields.{ExtremeFields}
+use Rattle.ends.proofs.Passing.{size-both}
 use Rattle.ends.proofs.Narrowing.{same, same-top, same-one, same-zero, none-zero, some-one}
 
 -- the commands and places of an extreme: the trial at place i wants COMP's bits in the bit of A there

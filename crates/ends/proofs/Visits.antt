@@ -1,8 +1,8 @@
 -- An adding job visits its places in order: at each a trial search and a multiadd, and then it is over.
 -- Assumes nothing.
-use Prim.Native.Nat.{ℕ, zero, suc, _+_, _*_, _^_, _<_}
-use mathlib.Core.Path.{_≡_, refl, sym, ap, ap₂, _∙_}
-use mathlib.Core.Bool.{Bool, true, false}
+use Prim.Native.Nat.{ℕ, suc, _+_, _*_, _^_, _<_}
+use mathlib.Core.Path.{_≡_, refl, ap₂, _∙_}
+use mathlib.Core.Bool.{Bool, false}
 use mathlib.Core.List.{List, [], _∷_}
 use native.Mathlib.Omega.{arith}
 use lib.ListN.{length}
@@ -14,11 +14,10 @@ use Rattle.jobs.specs.declared.Held.{Held}
 use Rattle.jobs.specs.declared.Held.the-variants.{Nothing, Holds}
 use Rattle.jobs.specs.Places.{badHeld, moved, next}
 use Rattle.jobs.specs.Commands.{command, look, plus}
-use Rattle.jobs.specs.Runs.{State}
 use Rattle.ends.specs.Ends.{Outside, Adds}
 use Rattle.ends.proofs.Agreeing.{agrees}
 use Rattle.ends.proofs.Machines.{width-is}
-use Rattle.ends.proofs.Steps.{on, pulsedBy, countedBy, Run, stay, then, step-then}
+use Rattle.ends.proofs.Steps.{on, pulsedBy, countedBy, Run, stay, step-then}
 use Rattle.ends.proofs.Fields.{Inside, Working}
 use Rattle.ends.proofs.Passing.{adds-none, adds-both, sound₁, sound₂, gate-adds}
 
@@ -66,6 +65,7 @@ total-kept n b (q ∷ qs) r w x h =
 pub record Visited (b : Job) (qs : List Stop) (m : Machine) : Type 0 where
   pub end : Machine
   pub run : Run (2 * length qs) (on m (start b qs)) (on end Nothing)
+  pub sound : Sound end
   pub adds : Adds b (total qs) m end
 
 module _ (b : Job) (y-works : Working (b .care) (b .y)) where
@@ -92,7 +92,7 @@ module _ (b : Job) (y-works : Working (b .care) (b .y)) where
 
   pub visits : (n : ℕ) → Inside n (b .p) → (qs : List Stop) → Route n b qs → (m : Machine) → Sound m → m .width ≡ n → Visited b qs m
   unfolding total
-  visits n p [] r m s e = record { end = m; run = stay; adds = adds-none b y-works m }
+  visits n p [] r m s e = record { end = m; run = stay; sound = s; adds = adds-none b y-works m }
   visits n p (q ∷ qs) r m s e =
       let g : Good (m .width) b q = rw e (r .0) in
       let z = stopped m q s (rw e p) g in
@@ -106,5 +106,6 @@ module _ (b : Job) (y-works : Working (b .care) (b .y)) where
             (rw (r .0 .onward (countedBy m (moved b 1 (q .i) (q .j))))
             (step-then (after₁ m q) (moved b 2 (q .i) (q .j)) (on (v .end) Nothing) (z .sound₁) second
             (rw (r .1 (countedBy (after₁ m q) (moved b 2 (q .i) (q .j)))) (v .run)))));
+        sound = v .sound;
         adds = adds-both b y-works _ (total qs) m (after₂ m q) (v .end) (total-kept n b qs (r .2)) (z .adds) (v .adds);
       }

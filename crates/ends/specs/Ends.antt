@@ -1,22 +1,24 @@
 -- Document 01, 'Jobs': the words in which a job's end is told.
 -- Assumes nothing.
-use Prim.Native.Nat.{ℕ, _+_, _*_, _%_, _^_, _≤_, _<_}
+use Prim.Native.Nat.{ℕ, _+_, _%_, _^_, _≤_, _<_}
 use mathlib.Core.Path.{_≡_}
 use mathlib.Core.Bool.{Bool, true, false, _&&_}
 use mathlib.Core.Logic.{_⊎_}
 use lib.Dec.{eqb}
 use lib.ListN.{length, getD}
 use Rattle.laws.specs.Bits.{bit, digit}
+use Rattle.machine.specs.declared.Check.the-variants as check
 use Rattle.machine.specs.Machine.{Machine, responseBits, selected}
 use Rattle.machine.specs.Pulse.{countOf, pulsed}
+use Rattle.machine.specs.Refusals.{machineCheck}
 use Rattle.jobs.specs.declared.Span.{Span}
 use Rattle.jobs.specs.declared.Job.{Job}
-use Rattle.jobs.specs.declared.Held.{Held}
 use Rattle.jobs.specs.declared.Held.the-variants.{Nothing, Holds}
+use Rattle.jobs.specs.declared.Started.the-variants as started
 use Rattle.jobs.specs.declared.Stepped.the-variants as answer
 use Rattle.jobs.specs.Places.{first, next}
 use Rattle.jobs.specs.Commands.{command}
-use Rattle.jobs.specs.Calls.{stepOf}
+use Rattle.jobs.specs.Calls.{startOf, stepOf}
 use Rattle.jobs.specs.Totals.{valueOf, pulses}
 use Rattle.jobs.specs.Runs.{State, stepped, steps}
 
@@ -26,6 +28,10 @@ word m k = getD (m .words) k 0
 
 abbrev pub response : Machine → ℕ → ℕ
 response m k = getD (m .responses) k 0
+
+-- the start of the job is accepted: what is then held is the job at its first place
+abbrev pub Accepted : Machine → Job → Type 0
+Accepted m o = startOf m Nothing o ≡ started.Holds (first o)
 
 -- the machine and the job held once its start is accepted
 abbrev pub begun : Machine → Job → State
@@ -49,14 +55,15 @@ pub record Gives (s : State) : Type 0 where
       stepOf m (s .held) ≡ answer.Gave k c (next job c))
   pub pulse : stepped s .machine ≡ pulsed (s .machine) (command job .panel) (command job .lines)
 
--- after an accepted start every step before the last of the stated pulses, and the last itself, gives its command, and then the job is over
-pub record Course (m : Machine) (o : Job) : Type 0 where
-  pub gives : (k : ℕ) → k < pulses m (first o) → Gives (steps k (begun m o))
-  pub over : steps (pulses m (first o)) (begun m o) .held ≡ Nothing
-
 -- the machine at the job's end
 abbrev pub ended : Machine → Job → Machine
 ended m o = steps (pulses m (first o)) (begun m o) .machine
+
+-- each of the stated pulses is a step that gives its command, and after them the job is over, on a machine that still passes 1 to 3
+pub record Course (m : Machine) (o : Job) : Type 0 where
+  pub gives : (k : ℕ) → k < pulses m (first o) → Gives (steps k (begun m o))
+  pub over : steps (pulses m (first o)) (begun m o) .held ≡ Nothing
+  pub passes : machineCheck (ended m o) ≡ check.Passed
 
 -- ---- the ends: m is the machine at the start, e at the end
 
