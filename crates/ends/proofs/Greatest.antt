@@ -1,0 +1,81 @@
+-- Greatest of A: X marks the selected words with the greatest value, after 1 + a pulses and one for each 1 of that value.
+-- Assumes nothing.
+use Prim.Native.Nat.{ℕ, _+_, _-_, _^_, _<_}
+use mathlib.Core.Path.{_≡_, refl, sym, ap, ap₂, _∙_}
+use mathlib.Core.Bool.{false}
+use native.Mathlib.Nat.{div-one}
+use native.Mathlib.Omega.{arith}
+use lib.Dec.{eqb}
+use lib.Pow.{pow-pos}
+use Rattle.laws.specs.Bits.{bit}
+use Rattle.machine.specs.Machine.{Machine}
+use Rattle.jobs.specs.declared.Job.{Job}
+use Rattle.jobs.specs.Fields.{greatest, kindOf, badExtreme, badUsed}
+use Rattle.jobs.specs.Places.{first}
+use Rattle.jobs.specs.Commands.{bitOf}
+use Rattle.jobs.specs.Totals.{ones, valueOf, values, greatestOf, pulses}
+use Rattle.ends.specs.Ends.{Accepted, word, Course, ended, Marks}
+use Rattle.ends.proofs.Agreeing.{agrees, agrees-one, one-here}
+use Rattle.ends.proofs.Parts.{value-lt, value-bit}
+use Rattle.ends.proofs.Machines.{same}
+use Rattle.ends.proofs.Fields.{ExtremeFields, extreme-fields}
+use Rattle.ends.proofs.Best.{greatest-bounds, greatest-has, greatest-lt, values-like}
+use Rattle.ends.proofs.Trials.{Best}
+use Rattle.ends.proofs.Extreme.{Ended, extreme-ends}
+use Rattle.ends.proofs.Plans.{most, held, first-is, plan}
+use Rattle.ends.proofs.Starts.{begins, Whole, whole-course, whole-ended}
+
+module _ (m : Machine) (o : Job) (accepted : Accepted m o) (kind : kindOf (o .kind) ≡ greatest) where
+  -- the greatest of A's values in the selected words
+  abbrev top : ℕ
+  top = greatestOf (values o (m .words) (m .responses))
+
+  used : badExtreme (m .width) (held o) ≡ false
+  unfolding badUsed badExtreme
+  used = rw kind at (begins m o accepted .used)
+
+  fields : ExtremeFields (m .width) (held o)
+  fields = extreme-fields (m .width) (held o) used
+
+  -- a trial finds the bit of the value
+  finds : (i w : ℕ) → i < o .a .width → agrees (m .width) (bitOf (o .a) i) w (bitOf (o .a) i) ≡ eqb (bit (valueOf (o .a) w) i) 1
+  finds i w h =
+      agrees-one (m .width) (o .a .low .0 + i) w (bitOf (o .a) i) (omega (arith, fields .a .fits))
+      ∙ ap₂ eqb (sym (value-bit (o .a) w i h)) (one-here (o .a .low .0 + i))
+
+  best : Best m (held o) (bitOf (o .a)) (valueOf (o .a)) top
+  best = record {
+    finds = finds;
+    value-lt = value-lt (o .a);
+    best-lt = greatest-lt o (2 ^ o .a .width) (pow-pos (o .a .width)) (value-lt (o .a)) (m .words) (m .responses);
+    bounds = λ k l c. greatest-bounds o (m .words) (m .responses) k (same m (begins m o accepted .sound)) l c;
+    has = λ h. let p = greatest-has o (m .words) (m .responses) h in (p .at, p .within, p .selected, p .value);
+  }
+
+  done : Ended m (begins m o accepted .sound) (held o) fields (bitOf (o .a)) (valueOf (o .a)) top (plan (m .width) o greatest most kind used) best
+  done = extreme-ends m (begins m o accepted .sound) (held o) fields (bitOf (o .a)) (valueOf (o .a)) top (plan (m .width) o greatest most kind used) best
+
+  -- "1+a plus, if any word is selected, the number of ones in the greatest syllable"
+  pub greatest-pulses : pulses m (first o) ≡ 1 + o .a .width + ones (o .a .width) top
+  unfolding pulses
+  greatest-pulses =
+      rw (first-is o most kind) (rw kind (ap (λ (vs : _). 1 + o .a .width + ones (o .a .width) (greatestOf vs)) (values-like o (held o) refl refl refl (m .words) (m .responses))))
+
+  whole : Whole m o (done .end)
+  whole = rw (greatest-pulses, first-is o most kind) (done .run)
+
+  -- every step gives its command until the job is over
+  pub greatest-course : Course m o
+  greatest-course = whole-course m o (done .end) whole (done .narrow .sound)
+
+  -- "X marks exactly the selected words with the extreme value."
+  pub greatest-ends : Marks o top m (ended m o)
+  greatest-ends =
+      let n = done .narrow in
+      rw (whole-ended m o (done .end) whole)
+      (record {
+        size = n .size;
+        marks = λ k l. n .marks k l ∙ rw (div-one (valueOf (o .a) (word m k)), div-one top);
+        words = n .words;
+        responses = n .others;
+      })

@@ -1,0 +1,65 @@
+-- What an accepted start shows, and a run of the stated length as the job's whole course.
+-- Assumes nothing.
+use mathlib.Core.Path.{_≡_, refl, ap}
+use mathlib.Core.Bool.{Bool, true, false, _||_}
+use Rattle.machine.specs.declared.Check.{Check}
+use Rattle.machine.specs.declared.Check.the-variants as check
+use Rattle.machine.specs.declared.Refusal.the-variants.{Unfit}
+use Rattle.machine.specs.Machine.{Machine}
+use Rattle.machine.specs.Refusals.{_else_, refuse, machineCheck}
+use Rattle.machine.proofs.Checks.{Sound, sound, else-passed, not-refused}
+use Rattle.jobs.specs.declared.Job.{Job}
+use Rattle.jobs.specs.declared.Held.{Held}
+use Rattle.jobs.specs.declared.Held.the-variants.{Nothing, Holds}
+use Rattle.jobs.specs.declared.Started.the-variants as started
+use Rattle.jobs.specs.Fields.{badUsed}
+use Rattle.jobs.specs.Places.{first}
+use Rattle.jobs.specs.Calls.{isHeld, startCheck, startedBy, startOf}
+use Rattle.jobs.specs.Totals.{pulses}
+use Rattle.jobs.specs.Runs.{State}
+use Rattle.ends.specs.Ends.{Accepted, begun, Course, ended}
+use Rattle.ends.proofs.Machines.{passes}
+use Rattle.ends.proofs.Steps.{on, Run, run-ends, run-gives}
+
+pub record Begun (m : Machine) (o : Job) : Type 0 where
+  pub sound : Sound m
+  pub used : badUsed (m .width) o ≡ false
+
+started-passed : (c : Check) (o : Job) → startedBy c o ≡ started.Holds o → c ≡ check.Passed
+started-passed check.Passed o h = refl
+started-passed (check.Refused r) o h = cc
+
+pub begins : (m : Machine) (o : Job) → Accepted m o → Begun m o
+unfolding startOf startCheck
+begins m o h =
+    let p = else-passed (machineCheck m) _ (started-passed (startCheck m Nothing o) (first o) h) in
+    record { sound = sound m (p .0); used = not-refused Unfit _ (p .1) }
+
+pub accepted-by : (m : Machine) (o : Job) → startCheck m Nothing o ≡ check.Passed → Accepted m o
+unfolding startOf
+accepted-by m o h = rw h
+
+-- whatever was held before: a start that is accepted finds no job held, and holds the job at its first place
+pub accepted-is : (m : Machine) (h : Held) (o q : Job) → startOf m h o ≡ started.Holds q → (h ≡ Nothing) × (q ≡ first o)
+unfolding startOf startCheck
+accepted-is m h o q e = go h (machineCheck m) (badUsed (m .width) o) e
+  where
+    go : (h : Held) (c : Check) (t : Bool) → startedBy (c else refuse Unfit (isHeld h || t)) (first o) ≡ started.Holds q → (h ≡ Nothing) × (q ≡ first o)
+    go Nothing check.Passed false e = (refl, cc)
+    go Nothing check.Passed true e = (refl, cc)
+    go (Holds p) check.Passed t e = (cc, cc)
+    go h (check.Refused r) t e = (cc, cc)
+
+-- the stated number of accepted steps, at whose end no job is held
+abbrev pub Whole : Machine → Job → Machine → Type 0
+Whole m o e = Run (pulses m (first o)) (begun m o) (on e Nothing)
+
+pub whole-ended : (m : Machine) (o : Job) (e : Machine) → Whole m o e → ended m o ≡ e
+whole-ended m o e r = ap (λ (s : State). s .machine) (run-ends r)
+
+pub whole-course : (m : Machine) (o : Job) (e : Machine) → Whole m o e → Sound e → Course m o
+whole-course m o e r s = record {
+  gives = run-gives r;
+  over = ap (λ (s : State). s .held) (run-ends r);
+  passes = rw (whole-ended m o e r) (passes e s);
+}

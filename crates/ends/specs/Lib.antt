@@ -1,0 +1,2 @@
+-- what the theorems on a job's end say
+pub mod Ends
