@@ -31,13 +31,8 @@ filled-requires c κs =
 returns : tie.Need-returns
 unfolding masksOf
 returns c = 
-    let m = c .before .before .before .before .before .before .before .before .before in
-    rw (
-      c .before .before .before .filled .ensures,
-      c .before .before .before .before .before .add-word .ensures,
-      m .mask-of .ensures,
-      m .before .tops-of .ensures,
-    ) refl
+    let m = c .before .before .before .before .before .before .before .before in
+    rw (c .before .before .filled .ensures, c .before .before .before .add-word .ensures, m .mask-of .ensures, m .before .tops-of .ensures) refl
 
 pub make-masks-spec : {M : Type 1} → statement M
 make-masks-spec =
