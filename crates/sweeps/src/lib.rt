@@ -257,13 +257,24 @@ fn multiboth(q: Changes, p: Tags, words: &mut [u64], responses: &[Response])
     let mut i: usize = 0;
     while i < all {
         let w = words[i];
-        words[i] = kept(chosen_of(p, responses[i]), written_of(q, w) | summed_of(q, w), w);
+        words[i] = kept(
+            chosen_of(p, responses[i]),
+            written_of(q, w) | summed_of(q, w),
+            w,
+        );
         i += 1;
     }
 }
 
 // Every selected word written or not, added to or not.
-pub fn change(q: Changes, p: Tags, write: bool, add: bool, words: &mut [u64], responses: &[Response])
+pub fn change(
+    q: Changes,
+    p: Tags,
+    write: bool,
+    add: bool,
+    words: &mut [u64],
+    responses: &[Response],
+)
     ensures { λ n. ⌜ now (words .exit) ≡ along (changed write add q p) (now (responses .entry)) (now (words .entry)) ⌝ }
 {
     if write {
@@ -281,7 +292,15 @@ pub fn change(q: Changes, p: Tags, write: bool, add: bool, words: &mut [u64], re
 
 // Search together with a change of words: a block's flags first, from its words as they stood, then its words by their response bits as they
 // stood, then its response bits.
-pub fn search_change(m: Masks, q: Changes, p: Tags, write: bool, add: bool, words: &mut [u64], responses: &mut [Response]) -> usize
+pub fn search_change(
+    m: Masks,
+    q: Changes,
+    p: Tags,
+    write: bool,
+    add: bool,
+    words: &mut [u64],
+    responses: &mut [Response],
+) -> usize
     ensures { λ n. ⌜ n ≡ count (found m p) (now (words .entry)) (now (responses .entry)) ⌝ }
     ensures { λ n. ⌜ now (words .exit) ≡ along (changed write add q p) (now (responses .entry)) (now (words .entry)) ⌝ }
     ensures { λ n. ⌜ now (responses .exit) ≡ along (answer m p) (now (words .entry)) (now (responses .entry)) ⌝ }

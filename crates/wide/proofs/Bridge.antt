@@ -1,7 +1,7 @@
 -- The sweeps' rules with the panel's masks are the machine's definitions: what the code computes by whole words is what document 01 says bit by bit
 -- and syllable by syllable ('One pulse').
 -- Assumes nothing.
-use Prim.Native.Nat.{ℕ, zero, suc, _+_, _-_, _*_, _/_, _%_, _^_, _≤_, _<_}
+use Prim.Native.Nat.{ℕ, _^_, _<_}
 use mathlib.Core.Path.{_≡_, refl, sym, ap, ap₂, _∙_}
 use mathlib.Core.List.{List}
 use mathlib.Core.Bool.{Bool, true, false, _&&_}
@@ -15,7 +15,7 @@ use Rattle.machine.specs.Machine.{responseBits, syllables, selected}
 use Rattle.machine.specs.Search.{satisfied, matches, marked}
 use Rattle.machine.specs.Pulse as m
 use Rattle.machine.proofs.Masks.{selected-is, marked-is, flipped-is, written-is, both-is}
-use Rattle.fields.specs.Fields.{fields, addIn}
+use Rattle.fields.specs.Fields.{fields}
 use Rattle.fields.specs.Codes.{oneIn, satisfiedIn}
 use Rattle.fields.specs.Tops.{topsOf}
 use Rattle.fields.proofs.Shape.{same-fields, topped, bits-fields, add-lt}

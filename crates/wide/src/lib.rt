@@ -190,7 +190,13 @@ fn check(words: &[u64], responses: &[Response], width: u32, panel: Panel, lines:
 // ---- all words
 
 // Search raised: all words but for the addressed one's change.
-fn sweep_search(width: u32, panel: Panel, lines: Lines, words: &mut [u64], responses: &mut [Response]) -> usize
+fn sweep_search(
+    width: u32,
+    panel: Panel,
+    lines: Lines,
+    words: &mut [u64],
+    responses: &mut [Response],
+) -> usize
     requires { ⌜ Accepted width panel lines (now words) (now responses) ⌝ }
     requires { ⌜ lines .search ≡ true ⌝ }
     ensures { λ n. ⌜ n ≡ count (counts width panel lines) (now (words .entry)) (now (responses .entry)) ⌝ }
@@ -201,14 +207,28 @@ fn sweep_search(width: u32, panel: Panel, lines: Lines, words: &mut [u64], respo
     let masks = make_masks(width, panel);
     if lines.multiwrite | lines.multiadd {
         let changes = make_changes(width, panel);
-        sweeps::search_change(masks, changes, tags, lines.multiwrite, lines.multiadd, words, responses)
+        sweeps::search_change(
+            masks,
+            changes,
+            tags,
+            lines.multiwrite,
+            lines.multiadd,
+            words,
+            responses,
+        )
     } else {
         sweeps::search(masks, tags, words, responses)
     }
 }
 
 // Search not raised.
-fn sweep_others(width: u32, panel: Panel, lines: Lines, words: &mut [u64], responses: &mut [Response]) -> usize
+fn sweep_others(
+    width: u32,
+    panel: Panel,
+    lines: Lines,
+    words: &mut [u64],
+    responses: &mut [Response],
+) -> usize
     requires { ⌜ Accepted width panel lines (now words) (now responses) ⌝ }
     requires { ⌜ lines .search ≡ false ⌝ }
     ensures { λ n. ⌜ n ≡ count (counts width panel lines) (now (words .entry)) (now (responses .entry)) ⌝ }
@@ -218,7 +238,14 @@ fn sweep_others(width: u32, panel: Panel, lines: Lines, words: &mut [u64], respo
     let tags = make_tags(panel);
     let changes = make_changes(width, panel);
     let n = sweeps::tally(tags, responses);
-    sweeps::change(changes, tags, lines.multiwrite, lines.multiadd, words, responses);
+    sweeps::change(
+        changes,
+        tags,
+        lines.multiwrite,
+        lines.multiadd,
+        words,
+        responses,
+    );
     if lines.complement {
         sweeps::flip(tags, responses);
         n
@@ -227,7 +254,13 @@ fn sweep_others(width: u32, panel: Panel, lines: Lines, words: &mut [u64], respo
     }
 }
 
-fn sweep(width: u32, panel: Panel, lines: Lines, words: &mut [u64], responses: &mut [Response]) -> usize
+fn sweep(
+    width: u32,
+    panel: Panel,
+    lines: Lines,
+    words: &mut [u64],
+    responses: &mut [Response],
+) -> usize
     requires { ⌜ Accepted width panel lines (now words) (now responses) ⌝ }
     ensures { λ n. ⌜ n ≡ count (counts width panel lines) (now (words .entry)) (now (responses .entry)) ⌝ }
     ensures { λ n. ⌜ now (words .exit) ≡ zip (multiAfter width panel lines) 0 (now (words .entry)) (now (responses .entry)) ⌝ }
@@ -250,11 +283,22 @@ fn new_at(width: u32, panel: Panel, lines: Lines, w: u64, r: Response) -> u64
 {
     let changes = make_changes(width, panel);
     let chosen = sweeps::chosen_of(make_tags(panel), r);
-    sweeps::new_word(changes, lines.write | (lines.multiwrite & chosen), lines.add | (lines.multiadd & chosen), w)
+    sweeps::new_word(
+        changes,
+        lines.write | (lines.multiwrite & chosen),
+        lines.add | (lines.multiadd & chosen),
+        w,
+    )
 }
 
 // The addressed word is worked out before the sweep and stored after it: "All results are worked out from the machine before the pulse."
-fn run(width: u32, panel: Panel, lines: Lines, words: &mut [u64], responses: &mut [Response]) -> usize
+fn run(
+    width: u32,
+    panel: Panel,
+    lines: Lines,
+    words: &mut [u64],
+    responses: &mut [Response],
+) -> usize
     requires { ⌜ Accepted width panel lines (now words) (now responses) ⌝ }
     ensures { λ n. ⌜ n ≡ countOf (machine width (now (words .entry)) (now (responses .entry))) panel lines ⌝ }
     ensures { λ n. ⌜ now (words .exit) ≡ pulsed (machine width (now (words .entry)) (now (responses .entry))) panel lines .words ⌝ }
@@ -281,7 +325,13 @@ fn read_word(panel: Panel, lines: Lines, words: &[u64]) -> u64
 }
 
 // One pulse, or a refusal: what is lent is changed only where nothing is refused.
-pub fn pulse(words: &mut [u64], responses: &mut [Response], width: u32, panel: Panel, lines: Lines) -> Answer
+pub fn pulse(
+    words: &mut [u64],
+    responses: &mut [Response],
+    width: u32,
+    panel: Panel,
+    lines: Lines,
+) -> Answer
     ensures { λ r. ⌜ r ≡ answerOf (machine width (now (words .entry)) (now (responses .entry))) panel lines ⌝ }
     ensures { λ r. ⌜ now (words .exit) ≡ after (machine width (now (words .entry)) (now (responses .entry))) panel lines .words ⌝ }
     ensures { λ r. ⌜ now (responses .exit) ≡ after (machine width (now (words .entry)) (now (responses .entry))) panel lines .responses ⌝ }
