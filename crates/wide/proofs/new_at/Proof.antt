@@ -8,12 +8,15 @@ use Rattle.wide.proofs.new_at.Statement.{statement}
 use Rattle.wide.proofs.new_at.Tie as tie
 
 returns : tie.Need-returns
-returns c =
-    let s = c .before .before .before .before .before .before .before .before in
+returns c = 
+    let k = c .before .before .before .before .before in
+    let t = k .before in
+    let q = t .before in
+    let s = q .before in
     let care : s .args .panel .care < 2 ^ responseBits = omega (arith, s .good) in
     let target : s .args .panel .target < 2 ^ responseBits = omega (arith, s .good) in
     at-address (s .args .width) (s .args .panel) (s .pre .0) care target (s .args .lines) (s .args .w) (s .args .r) (s .pre .1) _ _
-    (c .before .before .before .before .before .before .before .make-changes .ensures) (c .before .before .before .before .before .before .make-tags .ensures) (c .before .before .before .before .before .chosen-of .ensures) (c .new-word .ensures)
+    (q .make-changes .ensures) (t .make-tags .ensures) (k .chosen-of .ensures) (c .new-word .ensures)
 
 pub new-at-spec : {M : Type 1} → statement M
 new-at-spec =
