@@ -8,7 +8,7 @@ use Rattle.wide.proofs.new_at.Statement.{statement}
 use Rattle.wide.proofs.new_at.Tie as tie
 
 returns : tie.Need-returns
-returns c = 
+returns c =
     let k = c .before .before .before .before .before in
     let t = k .before in
     let q = t .before in
