@@ -10,3 +10,4 @@ pub mod Search
 pub mod WordSum
 pub mod Syllables
 pub mod Reader
+pub mod Tested

@@ -1,13 +1,13 @@
 -- The lowest one of a number b: a number made of b's bits is below it only where it is 0. So a field is equal to another at the cared bits
 -- exactly where their difference there is below the lowest cared bit, and "exact" becomes a comparison like the other two.
 -- Assumes nothing.
-use Prim.Native.Nat.{ℕ, zero, suc, _+_, _-_, _*_, _/_, _%_, _^_, _≤_, _<_, min}
+use Prim.Native.Nat.{ℕ, zero, suc, _-_, _/_, _%_, _≤_, _<_, min}
 use mathlib.Core.Path.{_≡_, refl, sym, ap, ap₂, _∙_}
 use mathlib.Core.Logic.{_⊎_, inl, inr, ⊎-elim}
 use native.Mathlib.Omega.{arith}
 use lib.Dec.{ltb, eqb}
 use lib.Arith.{bin-ind}
-use lib.Bits.{bitAnd, bitXor, differ, and-le-l, and-le-r, xor-add-and, and-self, xor-self}
+use lib.Bits.{bitAnd, bitXor, differ, and-le-r, xor-add-and, and-self, xor-self}
 use borrow.Author.Tests.{lt-ltb, le-ltb, eq-eqb, ne-eqb}
 use Rattle.laws.proofs.Digits.{Bit, off, on, low, tri, and-half, and-low, xor-half, xor-low}
 use Rattle.fields.proofs.Blocks.{absorb, xor-eq}

@@ -1,18 +1,18 @@
 -- The machine's definitions of search, of refusal 5 and of add are those over fields.
 -- Document 01, 'One pulse', Search and Add; refusal 5. For every width.
 -- Assumes nothing.
-use Prim.Native.Nat.{ℕ, zero, suc, _+_, _-_, _*_, _/_, _%_, _^_, _≤_, _<_, min, max}
+use Prim.Native.Nat.{ℕ, zero, suc, _+_, _*_, _/_, _%_, _^_, _<_, min, max}
 use mathlib.Core.Path.{_≡_, refl, sym, ap, ap₂, _∙_}
 use mathlib.Core.Bool.{Bool, true, false, _&&_, _||_}
 use mathlib.Core.List.{List, [], _∷_}
 use mathlib.Core.Logic.{⊎-elim, _⊎_, inl, inr}
 use native.Mathlib.Nat.{mod-one, div-one, zero-mod, mod-add-mod, add-mod-mod, add-zero}
 use native.Mathlib.Omega.{arith}
-use lib.Dec.{eqb, ltb}
+use lib.Dec.{eqb}
 use lib.Pow.{pow-pos, pow-add, shr-shr}
 use lib.Bits.{bitAnd, bitOr}
 use borrow.Author.Tests.{eqb-true}
-use Rattle.laws.specs.Bits.{bit, number, every}
+use Rattle.laws.specs.Bits.{bit, every}
 use Rattle.laws.specs.Lists.{all}
 use Rattle.laws.proofs.Digits.{Bit, off, on}
 use Rattle.laws.proofs.Bits.{digit-at, shifted, top-bit, number-is, every-like, every-eqb, and-left, and-right, and-bit, or-bit, bit-none, bits-same}
@@ -27,6 +27,13 @@ use Rattle.machine.proofs.Masks.{addend-is}
 use Rattle.fields.specs.Fields.{fields, addIn}
 use Rattle.fields.specs.Codes.{asks, one, oneIn, satisfiedIn}
 use Rattle.fields.proofs.Syllables.{place, syllables-are}
+
+-- a register from bit lo up, and the syllable of k bits there
+abbrev from : ℕ → ℕ → ℕ
+from lo x = x / 2 ^ lo
+
+abbrev at : ℕ → ℕ → Syllable
+at lo k = record { low = lo; width = k }
 
 -- the code of a bit, from what stands above the syllable's lowest bit
 codes : (p : Panel) (lo j : ℕ) → codeAt p (lo + j) ≡ code (bit (p .sc1 / 2 ^ lo) j) (bit (p .sc2 / 2 ^ lo) j)
@@ -49,18 +56,15 @@ every-none k x = every-like k _ _ (λ j g. ap (eqb (bit x j)) (sym (bit-none j))
 
 module _ (p : Panel) (lo k : ℕ) where
   abbrev a : ℕ
-  a = p .sc1 / 2 ^ lo
+  a = from lo (p .sc1)
 
   abbrev b : ℕ
-  b = p .sc2 / 2 ^ lo
+  b = from lo (p .sc2)
 
-  abbrev y : Syllable
-  y = record { low = lo; width = k }
-
-  each-like : (test : Code → Bool) → eachCode p y test ≡ every k (λ j. test (code (bit a j) (bit b j)))
+  each-like : (test : Code → Bool) → eachCode p (at lo k) test ≡ every k (λ j. test (code (bit a j) (bit b j)))
   each-like test = every-like k _ _ (λ j g. ap test (codes p lo j))
 
-  oneCode-is : oneCode p y ≡ one (a % 2 ^ k) (b % 2 ^ k)
+  oneCode-is : oneCode p (at lo k) ≡ one (a % 2 ^ k) (b % 2 ^ k)
   unfolding oneCode
   oneCode-is =
       ap₂ (λ (x z : Bool). x || z)
@@ -160,29 +164,27 @@ asks-is zero (suc b) u v = refl
 asks-is (suc a) zero u v = refl
 asks-is (suc a) (suc b) u v = refl
 
-module _ (p : Panel) (lo k : ℕ) where
-  abbrev a2 : ℕ
-  a2 = p .sc1 / 2 ^ lo
+read-is : (p : Panel) (lo k x : ℕ) → readOver p (at lo k) x ≡ bitAnd (from lo x) (bitOr (from lo (p .sc1)) (from lo (p .sc2))) % 2 ^ k
+read-is p lo k x =
+    number-is k _ _ (λ j g.
+    rw (codes p lo j, shifted x lo j, and-bit, or-bit)
+    (care (digit-at (from lo (p .sc1)) j) (digit-at (from lo (p .sc2)) j) (digit-at (from lo x) j)))
 
-  abbrev b2 : ℕ
-  b2 = p .sc2 / 2 ^ lo
-
-  abbrev y2 : Syllable
-  y2 = record { low = lo; width = k }
-
-  read-is : (x : ℕ) → readOver p y2 x ≡ bitAnd (x / 2 ^ lo) (bitOr a2 b2) % 2 ^ k
-  read-is x =
-      number-is k _ _ (λ j g. rw (codes p lo j, shifted x lo j, and-bit, or-bit) (care (digit-at a2 j) (digit-at b2 j) (digit-at (x / 2 ^ lo) j)))
-
-  satisfied-is : (w : ℕ) → one (a2 % 2 ^ k) (b2 % 2 ^ k) ≡ true
-      → satisfied p w y2
-      ≡ asks (a2 % 2 ^ k) (b2 % 2 ^ k) (bitAnd (w / 2 ^ lo) (bitOr a2 b2) % 2 ^ k) (bitAnd (p .comp / 2 ^ lo) (bitOr a2 b2) % 2 ^ k)
-  unfolding satisfied
-  satisfied-is w h =
-      each-like p lo k (λ d. reader.asks d (readOver p y2 w) (readOver p y2 (p .comp)))
-      ∙ every-code (λ d. reader.asks d (readOver p y2 w) (readOver p y2 (p .comp))) refl k a2 b2 h
-      ∙ asks-is (a2 % 2 ^ k) (b2 % 2 ^ k) _ _
-      ∙ ap₂ (asks (a2 % 2 ^ k) (b2 % 2 ^ k)) (read-is w) (read-is (p .comp))
+satisfied-is : (p : Panel) (lo k w : ℕ)
+    → let a = from lo (p .sc1) in
+    let b = from lo (p .sc2) in
+    one (a % 2 ^ k) (b % 2 ^ k) ≡ true
+    → satisfied p w (at lo k)
+    ≡ asks (a % 2 ^ k) (b % 2 ^ k) (bitAnd (from lo w) (bitOr a b) % 2 ^ k) (bitAnd (from lo (p .comp)) (bitOr a b) % 2 ^ k)
+unfolding satisfied
+satisfied-is p lo k w h =
+    let a = from lo (p .sc1) in
+    let b = from lo (p .sc2) in
+    let test : Code → Bool = λ d. reader.asks d (readOver p (at lo k) w) (readOver p (at lo k) (p .comp)) in
+    each-like p lo k test
+    ∙ every-code test refl k a b h
+    ∙ asks-is (a % 2 ^ k) (b % 2 ^ k) _ _
+    ∙ ap₂ (asks (a % 2 ^ k) (b % 2 ^ k)) (read-is p lo k w) (read-is p lo k (p .comp))
 
 -- ---- all syllables
 
@@ -218,7 +220,7 @@ all-satisfied-is n p w h =
 
 -- ---- add
 
-over-is : (x lo k : ℕ) (f : ℕ → ℕ) → ((i : ℕ) → bit x i ≡ f i) → over (record { low = lo; width = k }) f ≡ x / 2 ^ lo % 2 ^ k
+over-is : (x lo k : ℕ) (f : ℕ → ℕ) → ((i : ℕ) → bit x i ≡ f i) → over (at lo k) f ≡ x / 2 ^ lo % 2 ^ k
 over-is x lo k f h = number-is k (x / 2 ^ lo) _ (λ j g. sym (shifted x lo j) ∙ h (lo + j))
 
 sums-are : (p : Panel) (w lo : ℕ) (ks : List ℕ)

@@ -1,10 +1,9 @@
 -- The word-wide search: ten operations on a word of 64 bits say whether all its syllables are satisfied, however many there are.
 -- Document 01, 'One pulse', Search. A law for every width.
 -- Assumes nothing.
-use Prim.Native.Nat.{ℕ, zero, suc, _+_, _-_, _*_, _/_, _%_, _^_, _≤_, _<_, min}
-use mathlib.Core.Path.{_≡_, refl, sym, ap, ap₂, _∙_}
-use mathlib.Core.List.{List}
-use mathlib.Core.Bool.{Bool, true, false}
+use Prim.Native.Nat.{ℕ, _+_, _-_, _/_, _%_, _^_, _≤_, _<_, min}
+use mathlib.Core.Path.{_≡_, refl, sym, ap, _∙_}
+use mathlib.Core.Bool.{true}
 use native.Mathlib.Nat.{mod-eq-of-lt, mod-lt}
 use native.Mathlib.Omega.{arith}
 use lib.Dec.{eqb}
@@ -30,7 +29,7 @@ swap-low on off on = refl
 swap-low on on off = refl
 swap-low on on on = refl
 
-swap : (x y z : ℕ) → bitXor x (bitXor y z) ≡ bitXor y (bitXor x z)
+pub swap : (x y z : ℕ) → bitXor x (bitXor y z) ≡ bitXor y (bitXor x z)
 swap = bin-ind (λ (x : ℕ). (y z : ℕ) → bitXor x (bitXor y z) ≡ bitXor y (bitXor x z)) (λ y z. refl)
     (λ x ih y z. halves (simp xor-half (ih (y / 2) (z / 2))) (simp xor-low (swap-low (low x) (low y) (low z))))
 
@@ -65,7 +64,7 @@ none-missing g t x need hg hn e =
     ap (λ (y : ℕ). eqb y 0) (and-not 64 need g hn hg)
     ∙ eqb-cong (need - bitAnd need g) 0 (bitAnd (bitAnd g t) need) need (λ h. omega (arith, i, and-le-l need g)) (λ h. omega (arith, i))
 
-limit-lt : (n a b c z : ℕ) → a < 2 ^ n → b < 2 ^ n → limit a b c z < 2 ^ n
+pub limit-lt : (n a b c z : ℕ) → a < 2 ^ n → b < 2 ^ n → limit a b c z < 2 ^ n
 unfolding limit
 limit-lt n a b c z ha hb =
     let ab : bitAnd a b < 2 ^ n = and-lt n a b ha hb in

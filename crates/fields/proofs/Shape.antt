@@ -1,14 +1,17 @@
 -- The fields of a word of n bits have n bits, and bit n-1 starts one whether or not the register says so.
 -- Assumes nothing.
 use Prim.Native.Nat.{ℕ, zero, suc, _+_, _-_, _*_, _/_, _%_, _^_, _≤_, _<_, max}
-use mathlib.Core.Path.{_≡_, refl, sym, ap, ap₂, _∙_}
+use mathlib.Core.Path.{_≡_, refl, ap, ap₂, _∙_}
 use mathlib.Core.List.{List, [], _∷_}
+use mathlib.Core.Bool.{Bool, true, false}
 use native.Mathlib.Nat.{max-zero, pow-suc, mod-lt, mul-le-mul-right}
 use native.Mathlib.Omega.{arith}
+use lib.Dec.{ltb}
 use lib.Pow.{pow-pos, pow-lt, pow-add, shl-shr}
 use lib.Bits.{bitOr, or-lt, or-shr}
+use Rattle.laws.specs.Bits.{digit}
 use Rattle.laws.proofs.Digits.{Bit, off, on, low, or-half, or-low}
-use Rattle.fields.specs.Fields.{grow, fields, bits, addIn}
+use Rattle.fields.specs.Fields.{grow, fields, bits, addIn, aboveIn}
 use Rattle.fields.specs.Tops.{Topped, topsOf}
 
 bits-grow : (d : ℕ) (ks : List ℕ) → Bit d → bits (grow d ks) ≡ suc (bits ks)
@@ -64,3 +67,16 @@ add-lt [] w a c = omega arith
 add-lt (k ∷ ks) w a c =
     let h : addIn ks (w / 2 ^ suc k) (a / 2 ^ suc k) 0 + 1 ≤ 2 ^ bits ks = omega (arith, add-lt ks (w / 2 ^ suc k) (a / 2 ^ suc k) 0) in
     rw (pow-add 2 (bits ks) (suc k)) (omega (arith, mod-lt (w + a + c) (pow-pos (suc k)), mul-le-mul-right (2 ^ suc k) h))
+
+-- nor have the ones at tops
+pub above-lt : (ks : List ℕ) (q p c : ℕ) → aboveIn ks q p c < 2 ^ bits ks
+unfolding aboveIn bits
+above-lt [] q p c = omega arith
+above-lt (k ∷ ks) q p c =
+    let h : aboveIn ks (q / 2 ^ suc k) (p / 2 ^ suc k) 0 + 1 ≤ 2 ^ bits ks = omega (arith, above-lt ks (q / 2 ^ suc k) (p / 2 ^ suc k) 0) in
+    rw (pow-add 2 (bits ks) (suc k))
+    (omega (arith, at-top (ltb (p % 2 ^ suc k) (q % 2 ^ suc k + c)) k, mul-le-mul-right (2 ^ suc k) h))
+  where
+    at-top : (i : Bool) (k : ℕ) → digit i * 2 ^ k < 2 ^ suc k
+    at-top true k = omega (arith, pow-pos k, pow-suc 2 k)
+    at-top false k = omega (arith, pow-pos k, pow-suc 2 k)

@@ -2,12 +2,12 @@
 -- Document 01, 'One pulse', Add; "a 64-bit syllable at 2^64-1 plus 1 gives 0". A law for every width.
 -- Assumes nothing.
 use Prim.Native.Nat.{ℕ, zero, suc, _+_, _-_, _*_, _%_, _^_, _≤_, _<_}
-use mathlib.Core.Path.{_≡_, refl, sym, ap, _∙_}
+use mathlib.Core.Path.{_≡_, sym, ap, _∙_}
 use mathlib.Core.List.{List}
 use native.Mathlib.Nat.{mod-eq-of-lt, pow-suc}
 use native.Mathlib.Omega.{arith}
 use lib.Pow.{pow-pos, pow-mono, not-mod}
-use lib.Bits.{bitAnd, bitOr, bitXor, and-le-l, and-le-r, xor-lt, or-lt, or-add-and, and-mod}
+use lib.Bits.{bitAnd, bitXor, and-le-l, and-le-r, xor-lt, or-lt, or-add-and, and-mod}
 use Rattle.fields.specs.Fields.{fields, addIn}
 use Rattle.fields.specs.Tops.{topsOf}
 use Rattle.fields.proofs.Sums.{word-add}

@@ -1,15 +1,15 @@
 -- A walk along a list that changes beside another: after i steps the first i are done and the rest is as it was, so what the code reads next is
 -- what stood there at entry. One step, a block of steps at once, and the end.
 -- Assumes nothing.
-use Prim.Native.Nat.{ℕ, zero, suc, _+_, _-_, _≤_, _<_, min}
+use Prim.Native.Nat.{ℕ, zero, suc, _+_, _≤_, _<_, min}
 use mathlib.Core.Path.{_≡_, refl, sym, ap, ap₂, _∙_}
-use mathlib.Core.List.{List, [], _∷_, _++_, append-nil, append-assoc}
+use mathlib.Core.List.{List, [], _∷_, _++_, append-assoc}
 use mathlib.Core.Bool.{Bool, true, false}
 use native.Mathlib.Numerals.{add-one}
 use native.Mathlib.Omega.{arith}
 use lib.Bits.{bitOr}
 use lib.ListN.{length, take, drop, set, getD, length-append, length-take, length-drop, take-append-drop, drop-of-length-le}
-use lib.Seq.{take-all, take-at, drop-at, take-add, drop-drop, getD-drop, drop-cons, set-split, length-take-le}
+use lib.Seq.{take-at, drop-at, take-add, drop-drop, getD-drop, drop-cons, set-split, length-take-le}
 use mir.Val.{boolByte}
 use Rattle.laws.specs.Bits.{digit}
 use Rattle.laws.specs.Lists.{count}

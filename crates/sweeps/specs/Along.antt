@@ -1,7 +1,7 @@
 -- One list changed beside another, and what a sweep gathers from a list.
 -- Assumes nothing.
-use Prim.Native.Nat.{ℕ, zero, suc, _+_}
-use mathlib.Core.Bool.{Bool, true, false}
+use Prim.Native.Nat.{ℕ, zero, _+_}
+use mathlib.Core.Bool.{Bool}
 use mathlib.Core.List.{List, [], _∷_}
 use lib.Bits.{bitOr}
 use Rattle.laws.specs.Bits.{digit}

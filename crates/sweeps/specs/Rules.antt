@@ -1,6 +1,6 @@
 -- What a sweep does to one word or to its response bits, as the code computes it. What the masks stand for is not known here.
 -- Assumes nothing.
-use Prim.Native.Nat.{ℕ, zero, suc, _+_, _-_, _%_, _^_}
+use Prim.Native.Nat.{ℕ, _+_, _-_, _%_, _^_}
 use mathlib.Core.Bool.{Bool, true, false, _&&_}
 use lib.Dec.{eqb}
 use lib.Bits.{bitAnd, bitOr, bitXor}
@@ -12,19 +12,15 @@ use Rattle.sweeps.specs.declared.Changes.{Changes}
 
 -- ---- search
 
--- a carry out of u and v, where `low` is the sum of the bits below
-abbrev pub carried : ℕ → ℕ → ℕ → ℕ
-carried u v low = bitOr (bitAnd u v) (bitAnd (bitOr u v) low)
-
--- not 0 where a syllable is not satisfied
-unfoldable pub fails : Masks → ℕ → ℕ
-fails m w =
-    let u = bitXor (bitAnd w (m .care)) (m .flip) in
-    bitAnd (m .need) (2 ^ 64 - 1 - carried (m .limit) u ((m .rest + bitAnd u (m .low)) % 2 ^ 64))
+-- equal to `want` exactly if every syllable that asks for anything is satisfied
+unfoldable pub test : Masks → ℕ → ℕ
+test m w =
+    bitAnd (bitXor (bitAnd w (m .topcare)) (m .topflip))
+    (bitXor ((m .rest + bitXor (bitAnd w (m .lowcare)) (m .lowflip)) % 2 ^ 64) (m .limit))
 
 -- 1 where the word is satisfied
 unfoldable pub flag : Masks → ℕ → ℕ
-flag m w = digit (eqb (fails m w) 0)
+flag m w = digit (eqb (test m w) (m .want))
 
 unfoldable pub chosen : Tags → ℕ → Bool
 chosen p r = eqb (bitAnd r (p .care)) (bitAnd (p .key) (p .care))

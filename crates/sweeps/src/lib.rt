@@ -9,18 +9,20 @@ ghost use Rattle.laws.specs.Bits.{pick};
 ghost use Rattle.laws.specs.Lists.{count};
 ghost use Rattle.sweeps.specs.Along.{along, each, many};
 ghost use Rattle.sweeps.specs.Along as lists;
-ghost use Rattle.sweeps.specs.Rules.{fails, flag, chosen, hit, put, mark, found, answer, written, summed, new, changed, flipped};
+ghost use Rattle.sweeps.specs.Rules.{test, flag, chosen, hit, put, mark, found, answer, written, summed, new, changed, flipped};
 use machine::Response;
 
-// What a search works out of the panel once: a word's cared bits, turned by `flip`, are held against `limit` in each syllable; `low` are the bits
-// that are no syllable's top, and `need` the tops of the syllables that ask for anything.
+// What a search works out of the panel once. In each syllable the word's cared bits, turned by a flip, are held against a limit; the carry out of
+// the bits below a syllable's top decides with the top itself. `topcare` and `topflip` are care and flip at the tops of the syllables that ask
+// for anything, `lowcare` and `lowflip` at the bits that are no top, `rest` is the limit at those, and `want` what all satisfied gives.
 pub struct Masks {
-    pub care: u64,
-    pub flip: u64,
-    pub limit: u64,
+    pub topcare: u64,
+    pub topflip: u64,
+    pub lowcare: u64,
+    pub lowflip: u64,
     pub rest: u64,
-    pub low: u64,
-    pub need: u64,
+    pub limit: u64,
+    pub want: u64,
 }
 
 // What selects, and what is marked.
@@ -42,18 +44,17 @@ pub struct Changes {
 
 // ---- one word
 
-fn fails_of(m: Masks, w: u64) -> u64
-    ensures { λ r. ⌜ r ≡ fails m w ⌝ }
+fn test_of(m: Masks, w: u64) -> u64
+    ensures { λ r. ⌜ r ≡ test m w ⌝ }
 {
-    let u = (w & m.care) ^ m.flip;
-    let low = std::num::wrapping_add_u64(m.rest, u & m.low);
-    m.need & !((m.limit & u) | ((m.limit | u) & low))
+    let low = std::num::wrapping_add_u64(m.rest, (w & m.lowcare) ^ m.lowflip);
+    ((w & m.topcare) ^ m.topflip) & (low ^ m.limit)
 }
 
 fn flag_of(m: Masks, w: u64) -> u8
     ensures { λ r. ⌜ r ≡ flag m w ⌝ }
 {
-    (fails_of(m, w) == 0) as u8
+    (test_of(m, w) == m.want) as u8
 }
 
 pub fn chosen_of(p: Tags, r: Response) -> bool

@@ -12,9 +12,8 @@ use Rattle.machine.specs.declared.Lines.{Lines}
 use Rattle.machine.specs.declared.Refusal.{Refusal}
 use Rattle.machine.specs.declared.Check.{Check}
 use Rattle.machine.specs.declared.Check.the-variants as check
-use Rattle.machine.specs.declared.Answer.{Answer}
 use Rattle.machine.specs.declared.Answer.the-variants as answer
-use Rattle.machine.specs.Machine.{Machine, machine}
+use Rattle.machine.specs.Machine.{Machine}
 use Rattle.machine.specs.Pulse.{countOf, readOf, pulsed}
 use Rattle.machine.specs.Refusals.{pulseCheck, answerBy, answerOf, changeBy, after}
 use Rattle.wide.specs.Accepted.{Accepted}

@@ -1,7 +1,7 @@
 -- The sweeps' rules with the panel's masks are the machine's definitions: what the code computes by whole words is what document 01 says bit by bit
 -- and syllable by syllable ('One pulse').
 -- Assumes nothing.
-use Prim.Native.Nat.{ℕ, zero, suc, _+_, _-_, _*_, _/_, _%_, _^_, _≤_, _<_}
+use Prim.Native.Nat.{ℕ, _^_, _<_}
 use mathlib.Core.Path.{_≡_, refl, sym, ap, ap₂, _∙_}
 use mathlib.Core.List.{List}
 use mathlib.Core.Bool.{Bool, true, false, _&&_}
@@ -15,15 +15,15 @@ use Rattle.machine.specs.Machine.{responseBits, syllables, selected}
 use Rattle.machine.specs.Search.{satisfied, matches, marked}
 use Rattle.machine.specs.Pulse as m
 use Rattle.machine.proofs.Masks.{selected-is, marked-is, flipped-is, written-is, both-is}
-use Rattle.fields.specs.Fields.{fields, addIn}
+use Rattle.fields.specs.Fields.{fields}
 use Rattle.fields.specs.Codes.{oneIn, satisfiedIn}
 use Rattle.fields.specs.Tops.{topsOf}
 use Rattle.fields.proofs.Shape.{same-fields, topped, bits-fields, add-lt}
 use Rattle.fields.proofs.Turned.{limit}
-use Rattle.fields.proofs.Search.{search-word}
+use Rattle.fields.proofs.Tested.{tested-word}
 use Rattle.fields.proofs.WordSum.{sum-word}
 use Rattle.fields.proofs.Reader.{all-satisfied-is, added-is}
-use Rattle.sweeps.specs.Rules.{fails, flag, chosen, hit, put, mark, found, answer, written, summed, new, changed, flipped}
+use Rattle.sweeps.specs.Rules.{test, flag, chosen, hit, put, mark, found, answer, written, summed, new, changed, flipped}
 use Rattle.wide.specs.Plan.{masksOf, tagsOf, changesOf}
 use Rattle.wide.specs.Accepted.{Fit}
 
@@ -35,19 +35,19 @@ module _ (n : ℕ) (p : Panel) (f : Fit n p) (care : p .care < 2 ^ responseBits)
   -- ---- search
 
   module _ (one : oneIn (fields n (p .sdr)) (p .sc1) (p .sc2) ≡ true) where
-    fails-is : (w : ℕ) → eqb (fails (masksOf n p) w) 0 ≡ all (satisfied p w) (syllables n (p .sdr))
-    unfolding fails masksOf limit
-    fails-is w =
+    test-is : (w : ℕ) → eqb (test (masksOf n p) w) (masksOf n p .want) ≡ all (satisfied p w) (syllables n (p .sdr))
+    unfolding test masksOf limit
+    test-is w =
         let t = topped n (p .sdr) (f .least) (f .most) (f .sdr) in
         let e = same-fields n (p .sdr) (f .least) in
-        search-word n (topsOf n (p .sdr)) (t .pos) (t .wide) (t .within) (t .top) (p .sc1) (p .sc2) (p .comp) w (f .sc1) (f .sc2) (rw e one)
+        tested-word n (topsOf n (p .sdr)) (t .pos) (t .wide) (t .within) (t .top) (p .sc1) (p .sc2) (p .comp) w (f .sc1) (f .sc2) (rw e one)
         ∙ ap (λ (ks : List ℕ). satisfiedIn ks (p .sc1) (p .sc2) w (p .comp)) e
         ∙ sym (all-satisfied-is n p w one)
 
     pub found-is : (w r : ℕ) → found (masksOf n p) (tagsOf p) w r ≡ matches n p w r
     unfolding found hit flag matches
     found-is w r =
-        flagged (eqb (fails (masksOf n p) w) 0) (chosen (tagsOf p) r) ∙ ap₂ (λ (s t : Bool). s && t) (chosen-is r) (fails-is w)
+        flagged (eqb (test (masksOf n p) w) (masksOf n p .want)) (chosen (tagsOf p) r) ∙ ap₂ (λ (s t : Bool). s && t) (chosen-is r) (test-is w)
       where
         flagged : (x s : Bool) → (eqb (digit x) 1 && s) ≡ (s && x)
         flagged true true = refl

@@ -1,17 +1,16 @@
 -- What passing the checks shows, check by check. Document 01, 'Numbers given when a call is turned down', 1 to 7.
 -- Assumes nothing.
 use Prim.Native.Nat.{ℕ, zero, suc, _^_, _≤_, _<_}
-use mathlib.Core.Path.{_≡_, refl, sym, ap, ap₂, _∙_}
-use mathlib.Core.Bool.{Bool, true, false, not, _&&_, _||_}
+use mathlib.Core.Path.{_≡_, refl, sym, ap, _∙_}
+use mathlib.Core.Bool.{Bool, true, false, not, _||_}
 use mathlib.Core.List.{List, [], _∷_}
 use native.Mathlib.Omega.{arith}
-use lib.Dec.{ltb, leb, eqb}
+use lib.Dec.{ltb, eqb}
 use lib.ListN.{length, getD}
-use lib.Pow.{pow-pos, pow-mono}
+use lib.Pow.{pow-pos}
 use lib.Bits.{bitAnd, bitOr, bitXor, or-add-and, and-le-l, and-le-r}
-use borrow.Author.Tests.{ltb-false, leb-false, lt-leb, not-false, eqb-true, eqb-false}
+use borrow.Author.Tests.{ltb-false, leb-false, lt-leb, not-false, eqb-true}
 use Rattle.laws.specs.Bits.{pick}
-use Rattle.laws.specs.Lists.{all}
 use Rattle.machine.specs.declared.Panel.{Panel}
 use Rattle.machine.specs.declared.Lines.{Lines}
 use Rattle.machine.specs.declared.Found.{Found}
@@ -20,10 +19,9 @@ use Rattle.machine.specs.declared.Refusal.{Refusal}
 use Rattle.machine.specs.declared.Refusal.the-variants.{Size, Width, PanelTooWide, TwoCodes, WrongLines, NoSuchWord}
 use Rattle.machine.specs.declared.Check.{Check}
 use Rattle.machine.specs.declared.Check.the-variants.{Passed, Refused}
-use Rattle.machine.specs.Machine.{Machine, machine, syllables}
-use Rattle.machine.specs.Search.{oneCode}
+use Rattle.machine.specs.Machine.{Machine, machine}
 use Rattle.machine.specs.Resolution.{lowest}
-use Rattle.machine.specs.Refusals.{badSize, badWidth, tooWide, badPanel, badCodes, badLines, badAddress, _else_, refuse, refuseWord, machineCheck, commandCheck, pulseCheck}
+use Rattle.machine.specs.Refusals.{badSize, badWidth, tooWide, badPanel, badCodes, badLines, badAddress, _else_, refuse, refuseWord, machineCheck, pulseCheck}
 use Rattle.fields.specs.Fields.{fields, aboveIn}
 use Rattle.fields.specs.Tops.{topsOf, Topped}
 use Rattle.fields.specs.Codes.{oneIn}

@@ -1,12 +1,11 @@
 -- All words: what the sweeps leave and count is what the machine's definitions say, with search raised and without; then the addressed word.
 -- Document 01, 'One pulse'.
 -- Assumes nothing.
-use Prim.Native.Nat.{ℕ, _+_, _^_, _≤_, _<_}
+use Prim.Native.Nat.{ℕ, _^_, _<_}
 use mathlib.Core.Path.{_≡_, refl, sym, ap, ap₂, _∙_}
 use mathlib.Core.List.{List}
 use mathlib.Core.Bool.{Bool, true, false, _&&_, _||_}
 use native.Mathlib.Omega.{arith}
-use lib.Dec.{eqb}
 use lib.ListN.{length, getD, set}
 use borrow.Author.Tests.{eq-eqb, ne-eqb}
 use Rattle.laws.specs.Bits.{pick}
@@ -14,9 +13,8 @@ use Rattle.laws.specs.Lists.{zip, count}
 use Rattle.machine.specs.declared.Panel.{Panel}
 use Rattle.machine.specs.declared.Lines.{Lines}
 use Rattle.machine.specs.Machine.{Machine, machine, responseBits, selected}
-use Rattle.machine.specs.Search.{matches, marked}
+use Rattle.machine.specs.Search.{matches}
 use Rattle.machine.specs.Pulse.{written, added, change, wordAfter, responseAfter, counts, countOf, pulsed}
-use Rattle.machine.specs.Pulse as m
 use Rattle.sweeps.specs.declared.Masks.{Masks}
 use Rattle.sweeps.specs.declared.Tags.{Tags}
 use Rattle.sweeps.specs.declared.Changes.{Changes}

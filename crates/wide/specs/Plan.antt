@@ -21,18 +21,26 @@ largerBits a b = bitXor a (bitAnd a b)
 abbrev pub limitOf : ℕ → ℕ → ℕ → ℕ → ℕ
 limitOf a b c less = bitXor (bitXor (exactBits a b) (bitAnd (exactBits a b) less)) (bitXor (bitAnd c a) (largerBits a b))
 
+-- what turns the cared bits of a word, within n bits
+abbrev pub flipOf : ℕ → ℕ → ℕ → ℕ → ℕ
+flipOf n a b c = bitXor (2 ^ n - 1) (bitXor (largerBits a b) (bitAnd c (exactBits a b)))
+
 unfoldable pub masksOf : ℕ → Panel → Masks
 masksOf n p =
     let t = topsOf n (p .sdr) in
-    let exact = exactBits (p .sc1) (p .sc2) in
-    let limit = limitOf (p .sc1) (p .sc2) (p .comp) (addIn (fields n t) exact (2 ^ n - 1) 0) in
+    let low = 2 ^ 64 - 1 - t in
+    let care = bitOr (p .sc1) (p .sc2) in
+    let flip = flipOf n (p .sc1) (p .sc2) (p .comp) in
+    let limit = limitOf (p .sc1) (p .sc2) (p .comp) (addIn (fields n t) (exactBits (p .sc1) (p .sc2)) (2 ^ n - 1) 0) in
+    let need = aboveIn (fields n t) care 0 0 in
     record {
-      care = bitOr (p .sc1) (p .sc2);
-      flip = bitXor (2 ^ n - 1) (bitXor (largerBits (p .sc1) (p .sc2)) (bitAnd (p .comp) exact));
+      topcare = bitAnd care need;
+      topflip = bitAnd (bitXor flip limit) need;
+      lowcare = bitAnd care low;
+      lowflip = bitAnd flip low;
+      rest = bitAnd limit low;
       limit = limit;
-      rest = bitAnd limit (2 ^ 64 - 1 - t);
-      low = 2 ^ 64 - 1 - t;
-      need = aboveIn (fields n t) (bitOr (p .sc1) (p .sc2)) 0 0;
+      want = bitAnd need (2 ^ 64 - 1 - limit);
     }
 
 unfoldable pub tagsOf : Panel → Tags

@@ -80,19 +80,22 @@ fn make_masks(width: u32, panel: Panel) -> Masks
 {
     let t = tops_of(width, panel.sdr);
     let mask = mask_of(width);
+    let care = panel.sc1 | panel.sc2;
     let smaller = panel.sc1 & panel.sc2;
     let exact = panel.sc2 ^ smaller;
     let larger = panel.sc1 ^ smaller;
     let less = add_word(width, t, exact, mask);
-    let need = filled(width, t, panel.sc1 | panel.sc2);
+    let need = filled(width, t, care);
     let limit = (exact ^ (exact & less)) ^ ((panel.comp & panel.sc1) ^ larger);
+    let flip = mask ^ (larger ^ (panel.comp & exact));
     Masks {
-        care: panel.sc1 | panel.sc2,
-        flip: mask ^ (larger ^ (panel.comp & exact)),
-        limit,
+        topcare: care & need,
+        topflip: (flip ^ limit) & need,
+        lowcare: care & !t,
+        lowflip: flip & !t,
         rest: limit & !t,
-        low: !t,
-        need,
+        limit,
+        want: need & !limit,
     }
 }
 

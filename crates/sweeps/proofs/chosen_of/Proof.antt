@@ -1,9 +1,8 @@
+-- A word is chosen by its response bits as the rule says.
 use mathlib.Core.Path.{refl}
 use Rattle.sweeps.specs.Rules.{chosen}
 use Rattle.sweeps.proofs.chosen_of.Statement.{statement}
 use Rattle.sweeps.proofs.chosen_of.Tie as tie
-use Rattle.sweeps.proofs.chosen_of.Reads as reads
-use Rattle.sweeps.proofs.chosen_of.Lts as lts
 
 returns : tie.Need-returns
 unfolding chosen

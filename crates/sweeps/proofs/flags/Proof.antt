@@ -1,4 +1,5 @@
-use Prim.Native.Nat.{ℕ, _≤_, _<_, _+_, _-_}
+-- The invariant: the flags of the words passed stand in h.
+use Prim.Native.Nat.{ℕ, _≤_, _<_, _-_}
 use mathlib.Core.Path.{_≡_, _∙_}
 use native.Mathlib.Omega.{arith}
 use borrow.Author.Count.{below-more}
@@ -8,9 +9,6 @@ use Rattle.sweeps.specs.Rules.{flag}
 use borrow.Author.Needs.{needs}
 use Rattle.sweeps.proofs.flags.Statement.{statement}
 use Rattle.sweeps.proofs.flags.Tie as tie
-use Rattle.sweeps.proofs.flags.Reads as reads
-use Rattle.sweeps.proofs.flags.Lts as lts
-use Rattle.sweeps.proofs.flag_of.Reads as flag-of-reads
 
 abbrev Inv-loop : tie.InvT-loop
 Inv-loop m words h₀ i₀ h i = (i ≤ length words) × ((j : ℕ) → j < i → getD h j 0 ≡ flag m (getD words j 0)) × (length h ≡ 64)
@@ -20,24 +18,6 @@ abbrev μ-loop : tie.MeasureT-loop
 
 loop-holds : tie.Need-loop-holds Inv-loop μ-loop
 loop-holds c = (omega arith, (λ j g. absurd (omega arith)), c .before .pre .1)
-
-mul-flag-of : tie.Need-mul-flag-of Inv-loop μ-loop
-mul-flag-of c = search needs
-
-shared-slice-read-flag-of : tie.Need-shared-slice-read-flag-of Inv-loop μ-loop
-shared-slice-read-flag-of c = search needs
-
-flag-of-requires : tie.Need-flag-of-requires Inv-loop μ-loop
-flag-of-requires c κs = search needs
-
-element-write-h : tie.Need-element-write-h Inv-loop μ-loop
-element-write-h c = search needs
-
-add-i : tie.Need-add-i Inv-loop μ-loop
-add-i c = search needs
-
-loop-less : tie.Need-loop-less Inv-loop μ-loop
-loop-less c = search needs
 
 loop-again : tie.Need-loop-again Inv-loop μ-loop
 loop-again c =
@@ -59,11 +39,11 @@ flags-spec =
     Inv-loop
     μ-loop
     loop-holds
-    mul-flag-of
-    shared-slice-read-flag-of
-    flag-of-requires
-    element-write-h
-    add-i
-    loop-less
+    (λ c. search needs)
+    (λ c. search needs)
+    (λ c κs. search needs)
+    (λ c. search needs)
+    (λ c. search needs)
+    (λ c. search needs)
     loop-again
     returns)

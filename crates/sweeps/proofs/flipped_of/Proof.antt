@@ -1,14 +1,9 @@
+-- The target bits flip in a chosen word.
 use mathlib.Core.Path.{sym, _∙_}
 use Rattle.sweeps.specs.Rules.{flipped}
 use borrow.Author.Needs.{needs}
 use Rattle.sweeps.proofs.flipped_of.Statement.{statement}
 use Rattle.sweeps.proofs.flipped_of.Tie as tie
-use Rattle.sweeps.proofs.flipped_of.Reads as reads
-use Rattle.sweeps.proofs.flipped_of.Lts as lts
-use Rattle.sweeps.proofs.chosen_of.Reads as chosen-of-reads
-
-chosen-of-requires : tie.Need-chosen-of-requires
-chosen-of-requires c κs = search needs
 
 returns : tie.Need-returns
 unfolding flipped
@@ -19,4 +14,4 @@ unfolding flipped
 returns-2 c = rw (sym (c .before .chosen-of .ensures) ∙ c .if1 .left)
 
 pub flipped-of-spec : {M : Type 1} → statement M
-flipped-of-spec = tie.close (tie.spec chosen-of-requires returns returns-2)
+flipped-of-spec = tie.close (tie.spec (λ c κs. search needs) returns returns-2)

@@ -1,19 +1,15 @@
-use Prim.Native.Nat.{ℕ, _+_, _-_, _≤_, _<_}
-use mathlib.Core.Path.{_≡_, sym, ap, ap₂, _∙_}
-use mathlib.Core.Bool.{Bool, true, false}
+-- The invariant: a walk along the response bits beside the flags, and the count so far.
+use Prim.Native.Nat.{ℕ, _-_}
+use mathlib.Core.Path.{_≡_, ap, _∙_}
+use mathlib.Core.Bool.{Bool}
 use native.Mathlib.Omega.{arith}
 use lib.ListN.{length, getD}
-use Rattle.laws.specs.Bits.{pick}
 use Rattle.sweeps.specs.declared.Tags.{Tags}
 use Rattle.sweeps.specs.Rules.{hit, mark, put}
 use Rattle.sweeps.proofs.Walks.{Walk, start, step, here, finish, Tally, none-yet, step-counts, all-counted, byte-is, byte-le}
 use borrow.Author.Needs.{needs}
 use Rattle.sweeps.proofs.marks.Statement.{statement}
 use Rattle.sweeps.proofs.marks.Tie as tie
-use Rattle.sweeps.proofs.marks.Reads as reads
-use Rattle.sweeps.proofs.marks.Lts as lts
-use Rattle.sweeps.proofs.hit_of.Reads as hit-of-reads
-use Rattle.sweeps.proofs.put_in.Reads as put-in-reads
 
 abbrev Inv-loop : tie.InvT-loop
 Inv-loop p h responses₀ n₀ i₀ responses n i = Walk (mark p) h responses₀ responses i × Tally (hit p) h responses₀ n i
@@ -28,32 +24,8 @@ marked-is p x r e g = e ∙ ap (λ (b : Bool). put (p .target) b r) g
 loop-holds : tie.Need-loop-holds Inv-loop μ-loop
 loop-holds c = (start _ _ _, none-yet _ _ _)
 
-slice-read-r : tie.Need-slice-read-r Inv-loop μ-loop
-slice-read-r c = search needs
-
-element-copy-out-hit-of : tie.Need-element-copy-out-hit-of Inv-loop μ-loop
-element-copy-out-hit-of c = search needs
-
-hit-of-requires : tie.Need-hit-of-requires Inv-loop μ-loop
-hit-of-requires c κs = search needs
-
-put-in-requires : tie.Need-put-in-requires Inv-loop μ-loop
-put-in-requires c κs = search needs
-
-slice-write-responses : tie.Need-slice-write-responses Inv-loop μ-loop
-slice-write-responses c = search needs
-
-cast-n : tie.Need-cast-n Inv-loop μ-loop
-cast-n c = search needs
-
 add-n : tie.Need-add-n Inv-loop μ-loop
 add-n c = omega (arith, byte-le (c .before .hit-of .result))
-
-add-i : tie.Need-add-i Inv-loop μ-loop
-add-i c = search needs
-
-loop-less : tie.Need-loop-less Inv-loop μ-loop
-loop-less c = search needs
 
 loop-again : tie.Need-loop-again Inv-loop μ-loop
 loop-again c =
@@ -70,9 +42,6 @@ loop-again c =
           (x .ensures ∙ ap (hit (a .p) (getD (a .h .now) i 0)) (here (mark (a .p)) (a .h .now) (a .responses .now) r i w))),
     )
 
-same-length : tie.Need-same-length Inv-loop μ-loop
-same-length c = search needs
-
 returns : tie.Need-returns Inv-loop μ-loop
 returns c =
     let a = c .before .before .before .args in
@@ -88,15 +57,15 @@ marks-spec =
     Inv-loop
     μ-loop
     loop-holds
-    slice-read-r
-    element-copy-out-hit-of
-    hit-of-requires
-    put-in-requires
-    slice-write-responses
-    cast-n
+    (λ c. search needs)
+    (λ c. search needs)
+    (λ c κs. search needs)
+    (λ c κs. search needs)
+    (λ c. search needs)
+    (λ c. search needs)
     add-n
-    add-i
-    loop-less
+    (λ c. search needs)
+    (λ c. search needs)
     loop-again
-    same-length
+    (λ c. search needs)
     returns)

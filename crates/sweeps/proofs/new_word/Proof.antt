@@ -1,24 +1,9 @@
+-- A word that is written or not, added to or not: one case of the rule for each branch.
 use mathlib.Core.Path.{refl}
 use Rattle.sweeps.specs.Rules.{new}
 use borrow.Author.Needs.{needs}
 use Rattle.sweeps.proofs.new_word.Statement.{statement}
 use Rattle.sweeps.proofs.new_word.Tie as tie
-use Rattle.sweeps.proofs.new_word.Reads as reads
-use Rattle.sweeps.proofs.new_word.Lts as lts
-use Rattle.sweeps.proofs.summed_of.Reads as summed-of-reads
-use Rattle.sweeps.proofs.written_of.Reads as written-of-reads
-
-written-of-requires : tie.Need-written-of-requires
-written-of-requires c κs = search needs
-
-summed-of-requires : tie.Need-summed-of-requires
-summed-of-requires c κs = search needs
-
-written-of-requires-2 : tie.Need-written-of-requires-2
-written-of-requires-2 c κs = search needs
-
-summed-of-requires-2 : tie.Need-summed-of-requires-2
-summed-of-requires-2 c κs = search needs
 
 returns : tie.Need-returns
 unfolding new
@@ -40,10 +25,10 @@ pub new-word-spec : {M : Type 1} → statement M
 new-word-spec =
     tie.close
     (tie.spec
-    written-of-requires
-    summed-of-requires
-    written-of-requires-2
-    summed-of-requires-2
+    (λ c κs. search needs)
+    (λ c κs. search needs)
+    (λ c κs. search needs)
+    (λ c κs. search needs)
     returns
     returns-2
     returns-3

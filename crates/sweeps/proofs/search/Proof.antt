@@ -1,22 +1,15 @@
-use Prim.Native.Nat.{ℕ, _+_, _-_, _≤_, _<_}
-use mathlib.Core.Path.{_≡_, refl, sym, ap, ap₂, _∙_}
-use mathlib.Core.List.{List}
+-- The invariant: a walk along the response bits beside the words, the count so far, and h's length. One turn is one block.
+use Prim.Native.Nat.{_-_}
+use mathlib.Core.Path.{_≡_, refl, _∙_}
 use native.Mathlib.Omega.{arith}
-use lib.ListN.{length, getD, take, drop}
-use Rattle.sweeps.specs.Rules.{found, answer, hit, mark, flag}
+use lib.ListN.{length}
+use Rattle.sweeps.specs.Rules.{found, answer}
 use Rattle.sweeps.proofs.Walks.{Walk, start, finish, Tally, none-yet, all-counted}
 use Rattle.sweeps.proofs.Blocks.{length-between}
 use Rattle.sweeps.proofs.Searched.{searched}
 use borrow.Author.Needs.{needs}
 use Rattle.sweeps.proofs.search.Statement.{statement}
 use Rattle.sweeps.proofs.search.Tie as tie
-use Rattle.sweeps.proofs.search.Reads as reads
-use Rattle.sweeps.proofs.search.Lts as lts
-use Rattle.sweeps.proofs.block_end.Reads as block-end-reads
-use Rattle.sweeps.proofs.flags.Reads as flags-reads
-use Rattle.sweeps.proofs.marks.Reads as marks-reads
-use Rattle.sweeps.proofs.shorter.Reads as shorter-reads
-use Rattle.sweeps.proofs.size.Reads as size-reads
 
 abbrev Inv-loop : tie.InvT-loop
 Inv-loop m p words responses₀ n₀ h₀ all i₀ responses n h i = Walk (answer m p) words responses₀ responses i × Tally (found m p) words responses₀ n i × (length h ≡ 64)
@@ -24,26 +17,8 @@ Inv-loop m p words responses₀ n₀ h₀ all i₀ responses n h i = Walk (answe
 abbrev μ-loop : tie.MeasureT-loop
 μ-loop m p words responses₀ n₀ h₀ all i₀ responses n h i = all - i
 
-shorter-requires : tie.Need-shorter-requires Inv-loop μ-loop
-shorter-requires c κs = search needs
-
 loop-holds : tie.Need-loop-holds Inv-loop μ-loop
 loop-holds c = (start _ _ _, none-yet _ _ _, refl)
-
-block-end-requires : tie.Need-block-end-requires Inv-loop μ-loop
-block-end-requires c κs = search needs
-
-mul-flags : tie.Need-mul-flags Inv-loop μ-loop
-mul-flags c = search needs
-
-sub-flags : tie.Need-sub-flags Inv-loop μ-loop
-sub-flags c = search needs
-
-part-flags-start : tie.Need-part-flags-start Inv-loop μ-loop
-part-flags-start c = search needs
-
-part-flags-end : tie.Need-part-flags-end Inv-loop μ-loop
-part-flags-end c = search needs
 
 flags-requires : tie.Need-flags-requires Inv-loop μ-loop
 flags-requires c κs =
@@ -52,30 +27,12 @@ flags-requires c κs =
       s .loop .inv .2,
     )
 
-sub-marks : tie.Need-sub-marks Inv-loop μ-loop
-sub-marks c = search needs
-
-part-marks-start : tie.Need-part-marks-start Inv-loop μ-loop
-part-marks-start c = search needs
-
-part-marks-end : tie.Need-part-marks-end Inv-loop μ-loop
-part-marks-end c = search needs
-
 marks-requires : tie.Need-marks-requires Inv-loop μ-loop
 marks-requires c κs =
     let s = c .before .before .before .before .before .before .before in (
       omega (arith, length-between (s .loop .i) (c .before .before .before .before .before .block-end .result) (s .loop .responses) (search needs)),
       c .before .before .flags .ensures .1,
     )
-
-size-requires : tie.Need-size-requires Inv-loop μ-loop
-size-requires c κs = search needs
-
-add-n : tie.Need-add-n Inv-loop μ-loop
-add-n c = search needs
-
-loop-less : tie.Need-loop-less Inv-loop μ-loop
-loop-less c = search needs
 
 loop-again : tie.Need-loop-again Inv-loop μ-loop
 loop-again c =
@@ -89,9 +46,6 @@ loop-again c =
     (a .m) (a .p) (f .last .1 .1 .0) (b .last .1 .1 .0) (s .loop .n) (c .size .result) (s .loop .inv .0) (s .loop .inv .1)
     (omega (arith, e .ensures, f .ensures .1)) (f .ensures .0) (b .ensures .1) (c .size .ensures ∙ b .ensures .0) in
     (d .0, d .1, f .ensures .1)
-
-same-length : tie.Need-same-length Inv-loop μ-loop
-same-length c = search needs
 
 returns : tie.Need-returns Inv-loop μ-loop
 returns c =
@@ -108,21 +62,21 @@ search-spec =
     (tie.spec
     Inv-loop
     μ-loop
-    shorter-requires
+    (λ c κs. search needs)
     loop-holds
-    block-end-requires
-    mul-flags
-    sub-flags
-    part-flags-start
-    part-flags-end
+    (λ c κs. search needs)
+    (λ c. search needs)
+    (λ c. search needs)
+    (λ c. search needs)
+    (λ c. search needs)
     flags-requires
-    sub-marks
-    part-marks-start
-    part-marks-end
+    (λ c. search needs)
+    (λ c. search needs)
+    (λ c. search needs)
     marks-requires
-    size-requires
-    add-n
-    loop-less
+    (λ c κs. search needs)
+    (λ c. search needs)
+    (λ c. search needs)
     loop-again
-    same-length
+    (λ c. search needs)
     returns)

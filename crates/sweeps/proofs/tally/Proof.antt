@@ -1,18 +1,14 @@
-use Prim.Native.Nat.{ℕ, _+_, _-_, _≤_, _<_}
-use mathlib.Core.Path.{_≡_, sym, _∙_}
+-- The invariant: the count of the blocks passed.
+use Prim.Native.Nat.{_-_, _≤_}
+use mathlib.Core.Path.{sym, _∙_}
 use native.Mathlib.Omega.{arith}
-use lib.ListN.{length, getD}
+use lib.ListN.{length}
 use Rattle.sweeps.specs.Rules.{chosen}
 use Rattle.sweeps.proofs.Walks.{Tally, none-yet, all-counted, many-is}
 use Rattle.sweeps.proofs.Blocks.{between, length-between, counts-to-end}
 use borrow.Author.Needs.{needs}
 use Rattle.sweeps.proofs.tally.Statement.{statement}
 use Rattle.sweeps.proofs.tally.Tie as tie
-use Rattle.sweeps.proofs.tally.Reads as reads
-use Rattle.sweeps.proofs.tally.Lts as lts
-use Rattle.sweeps.proofs.block_end.Reads as block-end-reads
-use Rattle.sweeps.proofs.size.Reads as size-reads
-use Rattle.sweeps.proofs.tally_block.Reads as tally-block-reads
 
 abbrev Inv-loop : tie.InvT-loop
 Inv-loop p responses n₀ i₀ n i = (i ≤ length responses) × Tally (λ x r. chosen p r) responses responses n i
@@ -23,31 +19,10 @@ abbrev μ-loop : tie.MeasureT-loop
 loop-holds : tie.Need-loop-holds Inv-loop μ-loop
 loop-holds c = (search needs, none-yet _ _ _)
 
-block-end-requires : tie.Need-block-end-requires Inv-loop μ-loop
-block-end-requires c κs = search needs
-
-sub-tally-block : tie.Need-sub-tally-block Inv-loop μ-loop
-sub-tally-block c = search needs
-
-part-tally-block-start : tie.Need-part-tally-block-start Inv-loop μ-loop
-part-tally-block-start c = search needs
-
-part-tally-block-end : tie.Need-part-tally-block-end Inv-loop μ-loop
-part-tally-block-end c = search needs
-
 tally-block-requires : tie.Need-tally-block-requires Inv-loop μ-loop
 tally-block-requires c κs =
     let s = c .before .before .before in
     omega (arith, length-between (s .loop .i) (c .before .block-end .result) (s .before .before .args .responses .now) (search needs))
-
-size-requires : tie.Need-size-requires Inv-loop μ-loop
-size-requires c κs = search needs
-
-add-n : tie.Need-add-n Inv-loop μ-loop
-add-n c = search needs
-
-loop-less : tie.Need-loop-less Inv-loop μ-loop
-loop-less c = search needs
 
 loop-again : tie.Need-loop-again Inv-loop μ-loop
 loop-again c =
@@ -74,13 +49,13 @@ tally-spec =
     Inv-loop
     μ-loop
     loop-holds
-    block-end-requires
-    sub-tally-block
-    part-tally-block-start
-    part-tally-block-end
+    (λ c κs. search needs)
+    (λ c. search needs)
+    (λ c. search needs)
+    (λ c. search needs)
     tally-block-requires
-    size-requires
-    add-n
-    loop-less
+    (λ c κs. search needs)
+    (λ c. search needs)
+    (λ c. search needs)
     loop-again
     returns)

@@ -1,13 +1,12 @@
-use Prim.Native.Nat.{ℕ, _+_, _-_, _≤_, _<_}
-use mathlib.Core.Path.{_≡_, refl, sym, ap, _∙_}
-use lib.ListN.{length, getD, drop}
+-- The invariant: the bits of the words passed, and of those to come, are those of all.
+use Prim.Native.Nat.{_-_, _≤_}
+use mathlib.Core.Path.{_≡_, refl, sym, _∙_}
+use lib.ListN.{length, drop}
 use Rattle.sweeps.specs.Along.{union}
 use Rattle.sweeps.proofs.Walks.{union-next, union-end}
 use borrow.Author.Needs.{needs}
 use Rattle.sweeps.proofs.union.Statement.{statement}
 use Rattle.sweeps.proofs.union.Tie as tie
-use Rattle.sweeps.proofs.union.Reads as reads
-use Rattle.sweeps.proofs.union.Lts as lts
 
 abbrev Inv-loop : tie.InvT-loop
 Inv-loop words all₀ i₀ all i = (i ≤ length words) × (union all (drop i words) ≡ union 0 words)
@@ -17,18 +16,6 @@ abbrev μ-loop : tie.MeasureT-loop
 
 loop-holds : tie.Need-loop-holds Inv-loop μ-loop
 loop-holds c = (search needs, refl)
-
-mul-all : tie.Need-mul-all Inv-loop μ-loop
-mul-all c = search needs
-
-shared-slice-read-all : tie.Need-shared-slice-read-all Inv-loop μ-loop
-shared-slice-read-all c = search needs
-
-add-i : tie.Need-add-i Inv-loop μ-loop
-add-i c = search needs
-
-loop-less : tie.Need-loop-less Inv-loop μ-loop
-loop-less c = search needs
 
 loop-again : tie.Need-loop-again Inv-loop μ-loop
 loop-again c =
@@ -48,9 +35,9 @@ union-spec =
     Inv-loop
     μ-loop
     loop-holds
-    mul-all
-    shared-slice-read-all
-    add-i
-    loop-less
+    (λ c. search needs)
+    (λ c. search needs)
+    (λ c. search needs)
+    (λ c. search needs)
     loop-again
     returns)

@@ -1,17 +1,8 @@
+-- One wrapping add of whole words adds in each syllable.
 use Rattle.wide.proofs.Words.{sum-is}
 use borrow.Author.Needs.{needs}
 use Rattle.wide.proofs.add_word.Statement.{statement}
 use Rattle.wide.proofs.add_word.Tie as tie
-use Rattle.wide.proofs.add_word.Reads as reads
-use Rattle.wide.proofs.add_word.Lts as lts
-use Rattle.std.proofs.num.wrapping_add_u64.Reads as wrapping-add-u64-reads
-use Rattle.wide.proofs.mask_of.Reads as mask-of-reads
-
-wrapping-add-u64-requires : tie.Need-wrapping-add-u64-requires
-wrapping-add-u64-requires c κs = search needs
-
-mask-of-requires : tie.Need-mask-of-requires
-mask-of-requires c κs = search needs
 
 returns : tie.Need-returns
 returns c =
@@ -21,4 +12,4 @@ returns c =
     (c .mask-of .ensures)
 
 pub add-word-spec : {M : Type 1} → statement M
-add-word-spec = tie.close (tie.spec wrapping-add-u64-requires mask-of-requires returns)
+add-word-spec = tie.close (tie.spec (λ c κs. search needs) (λ c κs. search needs) returns)

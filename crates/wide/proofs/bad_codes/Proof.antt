@@ -1,17 +1,10 @@
-use mathlib.Core.Path.{sym, _∙_}
+-- 5: two codes stand in a syllable exactly where SC1, SC2 and their difference all fill it.
 use lib.Bits.{xor-lt}
 use Rattle.machine.specs.Refusals.{badCodes}
 use Rattle.wide.proofs.Checks.{fit-tops, two-codes}
 use borrow.Author.Needs.{needs}
 use Rattle.wide.proofs.bad_codes.Statement.{statement}
 use Rattle.wide.proofs.bad_codes.Tie as tie
-use Rattle.wide.proofs.bad_codes.Reads as reads
-use Rattle.wide.proofs.bad_codes.Lts as lts
-use Rattle.wide.proofs.filled.Reads as filled-reads
-use Rattle.wide.proofs.tops_of.Reads as tops-of-reads
-
-tops-of-requires : tie.Need-tops-of-requires
-tops-of-requires c κs = search needs
 
 filled-requires : tie.Need-filled-requires
 filled-requires c κs =
@@ -43,7 +36,7 @@ pub bad-codes-spec : {M : Type 1} → statement M
 bad-codes-spec =
     tie.close
     (tie.spec
-    tops-of-requires
+    (λ c κs. search needs)
     filled-requires
     filled-requires-2
     filled-requires-3

@@ -1,22 +1,10 @@
+-- 1 to 3, and then the rest.
 use Rattle.machine.specs.Machine.{machine}
 use Rattle.wide.proofs.Checks.{machine-passed, stopped, went-on}
 use mathlib.Core.Path.{sym, _∙_}
 use borrow.Author.Needs.{needs}
 use Rattle.wide.proofs.check.Statement.{statement}
 use Rattle.wide.proofs.check.Tie as tie
-use Rattle.wide.proofs.check.Reads as reads
-use Rattle.wide.proofs.check.Lts as lts
-use Rattle.wide.proofs.check_machine.Reads as check-machine-reads
-use Rattle.wide.proofs.check_rest.Reads as check-rest-reads
-
-check-machine-requires : tie.Need-check-machine-requires
-check-machine-requires c κs = search needs
-
-enum-known-first : tie.Need-enum-known-first
-enum-known-first c = search needs
-
-enum-told : tie.Need-enum-told
-enum-told c = search needs
 
 check-rest-requires : tie.Need-check-rest-requires
 check-rest-requires c κs =
@@ -40,9 +28,9 @@ pub check-spec : {M : Type 1} → statement M
 check-spec =
     tie.close
     (tie.spec
-    check-machine-requires
-    enum-known-first
-    enum-told
+    (λ c κs. search needs)
+    (λ c. search needs)
+    (λ c. search needs)
     check-rest-requires
     returns
     returns-2)

@@ -1,3 +1,4 @@
+-- 1 to 3, in order.
 use mathlib.Core.Path.{sym, _∙_}
 use Rattle.machine.specs.declared.Refusal.the-variants.{Size, Width}
 use Rattle.machine.specs.Refusals.{machineCheck}
@@ -5,30 +6,16 @@ use Rattle.machine.proofs.Checks.{refused, onward}
 use borrow.Author.Needs.{needs}
 use Rattle.wide.proofs.check_machine.Statement.{statement}
 use Rattle.wide.proofs.check_machine.Tie as tie
-use Rattle.wide.proofs.check_machine.Reads as reads
-use Rattle.wide.proofs.check_machine.Lts as lts
-use Rattle.machine.proofs.bad_size.Reads as bad-size-reads
-use Rattle.machine.proofs.bad_width.Reads as bad-width-reads
-use Rattle.wide.proofs.check_words.Reads as check-words-reads
-
-bad-size-requires : tie.Need-bad-size-requires
-bad-size-requires c κs = search needs
 
 returns : tie.Need-returns
 unfolding machineCheck
 returns c = refused Size _ _ (sym (c .before .bad-size .ensures) ∙ c .if1 .taken)
-
-bad-width-requires : tie.Need-bad-width-requires
-bad-width-requires c κs = search needs
 
 returns-2 : tie.Need-returns-2
 unfolding machineCheck
 returns-2 c =
     onward Size _ _ _ (sym (c .before .before .before .bad-size .ensures) ∙ c .before .before .if1 .left)
     (refused Width _ _ (sym (c .before .bad-width .ensures) ∙ c .if2 .taken))
-
-check-words-requires : tie.Need-check-words-requires
-check-words-requires c κs = search needs
 
 returns-3 : tie.Need-returns-3
 unfolding machineCheck
@@ -41,9 +28,9 @@ pub check-machine-spec : {M : Type 1} → statement M
 check-machine-spec =
     tie.close
     (tie.spec
-    bad-size-requires
+    (λ c κs. search needs)
     returns
-    bad-width-requires
+    (λ c κs. search needs)
     returns-2
-    check-words-requires
+    (λ c κs. search needs)
     returns-3)

@@ -1,3 +1,4 @@
+-- 4 to 7, in order.
 use mathlib.Core.Path.{sym, _∙_}
 use Rattle.machine.specs.declared.Refusal.the-variants.{PanelTooWide, TwoCodes}
 use Rattle.machine.proofs.Checks.{refused, onward}
@@ -5,14 +6,6 @@ use Rattle.wide.proofs.Checks.{fit}
 use borrow.Author.Needs.{needs}
 use Rattle.wide.proofs.check_rest.Statement.{statement}
 use Rattle.wide.proofs.check_rest.Tie as tie
-use Rattle.wide.proofs.check_rest.Reads as reads
-use Rattle.wide.proofs.check_rest.Lts as lts
-use Rattle.machine.proofs.bad_panel.Reads as bad-panel-reads
-use Rattle.machine.proofs.check_command.Reads as check-command-reads
-use Rattle.wide.proofs.bad_codes.Reads as bad-codes-reads
-
-bad-panel-requires : tie.Need-bad-panel-requires
-bad-panel-requires c κs = search needs
 
 returns : tie.Need-returns
 returns c = refused PanelTooWide _ _ (sym (c .before .bad-panel .ensures) ∙ c .if1 .taken)
@@ -27,9 +20,6 @@ returns-2 c =
     onward PanelTooWide _ _ _ (sym (c .before .before .before .bad-panel .ensures) ∙ c .before .before .if1 .left)
     (refused TwoCodes _ _ (sym (c .before .bad-codes .ensures) ∙ c .if2 .taken))
 
-check-command-requires : tie.Need-check-command-requires
-check-command-requires c κs = search needs
-
 returns-3 : tie.Need-returns-3
 returns-3 c =
     let e = c .before in
@@ -40,9 +30,9 @@ pub check-rest-spec : {M : Type 1} → statement M
 check-rest-spec =
     tie.close
     (tie.spec
-    bad-panel-requires
+    (λ c κs. search needs)
     returns
     bad-codes-requires
     returns-2
-    check-command-requires
+    (λ c κs. search needs)
     returns-3)

@@ -1,5 +1,6 @@
-use Prim.Native.Nat.{ℕ, _^_}
-use mathlib.Core.Path.{_≡_, refl, sym, ap, _∙_}
+-- No word is larger than the union of all; and none of 64 bits is too wide for 64.
+use Prim.Native.Nat.{_^_}
+use mathlib.Core.Path.{sym, ap, _∙_}
 use native.Mathlib.Omega.{arith}
 use lib.Pow.{pow-mono}
 use borrow.Author.Tests.{leb-false}
@@ -8,24 +9,6 @@ use Rattle.wide.proofs.Checks.{none-lowest, union-each}
 use borrow.Author.Needs.{needs}
 use Rattle.wide.proofs.check_words.Statement.{statement}
 use Rattle.wide.proofs.check_words.Tie as tie
-use Rattle.wide.proofs.check_words.Reads as reads
-use Rattle.wide.proofs.check_words.Lts as lts
-use Rattle.machine.proofs.first_too_wide.Reads as first-too-wide-reads
-use Rattle.machine.proofs.refuse_word.Reads as refuse-word-reads
-use Rattle.machine.proofs.too_wide.Reads as too-wide-reads
-use Rattle.sweeps.proofs.union.Reads as union-reads
-
-union-requires : tie.Need-union-requires
-union-requires c κs = search needs
-
-too-wide-requires : tie.Need-too-wide-requires
-too-wide-requires c κs = search needs
-
-first-too-wide-requires : tie.Need-first-too-wide-requires
-first-too-wide-requires c κs = search needs
-
-refuse-word-requires : tie.Need-refuse-word-requires
-refuse-word-requires c κs = search needs
 
 returns : tie.Need-returns
 returns c = c .refuse-word .ensures ∙ ap refuseWord (c .before .first-too-wide .ensures)
@@ -51,10 +34,10 @@ pub check-words-spec : {M : Type 1} → statement M
 check-words-spec =
     tie.close
     (tie.spec
-    union-requires
-    too-wide-requires
-    first-too-wide-requires
-    refuse-word-requires
+    (λ c κs. search needs)
+    (λ c κs. search needs)
+    (λ c κs. search needs)
+    (λ c κs. search needs)
     returns
     returns-2
     returns-3)

@@ -1,9 +1,8 @@
+-- Key, care and target are the panel's.
 use mathlib.Core.Path.{refl}
 use Rattle.wide.specs.Plan.{tagsOf}
 use Rattle.wide.proofs.make_tags.Statement.{statement}
 use Rattle.wide.proofs.make_tags.Tie as tie
-use Rattle.wide.proofs.make_tags.Reads as reads
-use Rattle.wide.proofs.make_tags.Lts as lts
 
 returns : tie.Need-returns
 unfolding tagsOf

@@ -1,14 +1,9 @@
-use mathlib.Core.Path.{sym, ap, _∙_}
+-- A sweep, and the addressed word stored after it.
 use native.Mathlib.Omega.{arith}
-use lib.ListN.{length}
 use Rattle.wide.proofs.Swept.{in-range, with-address, without-address}
 use borrow.Author.Needs.{needs}
 use Rattle.wide.proofs.run.Statement.{statement}
 use Rattle.wide.proofs.run.Tie as tie
-use Rattle.wide.proofs.run.Reads as reads
-use Rattle.wide.proofs.run.Lts as lts
-use Rattle.wide.proofs.new_at.Reads as new-at-reads
-use Rattle.wide.proofs.sweep.Reads as sweep-reads
 
 mul-new-at : tie.Need-mul-new-at
 mul-new-at c =
@@ -34,9 +29,6 @@ new-at-requires c κs =
     let a = s .args in
     (s .pre .fit, s .pre .words (a .panel .address .0))
 
-sweep-requires : tie.Need-sweep-requires
-sweep-requires c κs = search needs
-
 mul-words : tie.Need-mul-words
 mul-words c =
     let s = c .before .before .before .before .before .before .before .before .before .before .before .before .before .before in
@@ -49,15 +41,6 @@ slice-write-words c =
     let a = s .args in
     omega (arith, in-range (a .width) (a .panel) (a .lines) (a .words .now) (a .responses .now) (s .pre) (c .before .before .before .before .before .before .before .before .before .before .if1 .taken))
 
-sweep-requires-2 : tie.Need-sweep-requires-2
-sweep-requires-2 c κs = search needs
-
-same-length : tie.Need-same-length
-same-length c = search needs
-
-same-length-2 : tie.Need-same-length-2
-same-length-2 c = search needs
-
 returns : tie.Need-returns
 returns c =
     let s = c .before .before .before .before .before .before .before .before .before .before .before .before .before .before in
@@ -66,12 +49,6 @@ returns c =
     let x = c .before .before .before .before .before .before .before .new-at in
     with-address (a .width) (a .panel) (a .lines) (a .words .now) (a .responses .now) (s .pre) (w .result) (x .result) (w .last .1 .1 .1 .0) (w .last .1 .1 .1 .1 .0) (in-range (a .width) (a .panel) (a .lines) (a .words .now) (a .responses .now) (s .pre) (c .before .before .before .before .before .before .before .before .before .before .if1 .taken)) (x .ensures)
     (w .ensures .0) (w .ensures .1 .0) (w .ensures .1 .1)
-
-same-length-3 : tie.Need-same-length-3
-same-length-3 c = search needs
-
-same-length-4 : tie.Need-same-length-4
-same-length-4 c = search needs
 
 returns-2 : tie.Need-returns-2
 returns-2 c =
@@ -88,13 +65,13 @@ run-spec =
     slice-read-new-at
     slice-read-new-at-2
     new-at-requires
-    sweep-requires
+    (λ c κs. search needs)
     mul-words
     slice-write-words
-    sweep-requires-2
-    same-length
-    same-length-2
+    (λ c κs. search needs)
+    (λ c. search needs)
+    (λ c. search needs)
     returns
-    same-length-3
-    same-length-4
+    (λ c. search needs)
+    (λ c. search needs)
     returns-2)

@@ -1,40 +1,12 @@
+-- What the sweeps promise by rule is what the machine's definitions say, with search raised.
 use Prim.Native.Nat.{ℕ, _^_, _<_}
-use mathlib.Core.Path.{sym, _∙_}
 use native.Mathlib.Omega.{arith}
-use lib.ListN.{length, getD}
+use lib.ListN.{getD}
 use Rattle.machine.specs.Machine.{responseBits}
 use Rattle.wide.proofs.Swept.{words-change, words-stay, matches-count, matches-mark}
 use borrow.Author.Needs.{needs}
 use Rattle.wide.proofs.sweep_search.Statement.{statement}
 use Rattle.wide.proofs.sweep_search.Tie as tie
-use Rattle.wide.proofs.sweep_search.Reads as reads
-use Rattle.wide.proofs.sweep_search.Lts as lts
-use Rattle.sweeps.proofs.search.Reads as search-reads
-use Rattle.sweeps.proofs.search_change.Reads as search-change-reads
-use Rattle.wide.proofs.make_changes.Reads as make-changes-reads
-use Rattle.wide.proofs.make_masks.Reads as make-masks-reads
-use Rattle.wide.proofs.make_tags.Reads as make-tags-reads
-
-make-tags-requires : tie.Need-make-tags-requires
-make-tags-requires c κs = search needs
-
-make-masks-requires : tie.Need-make-masks-requires
-make-masks-requires c κs = search needs
-
-make-changes-requires : tie.Need-make-changes-requires
-make-changes-requires c κs = search needs
-
-search-change-requires : tie.Need-search-change-requires
-search-change-requires c κs = search needs
-
-search-requires : tie.Need-search-requires
-search-requires c κs = search needs
-
-same-length : tie.Need-same-length
-same-length c = search needs
-
-same-length-2 : tie.Need-same-length-2
-same-length-2 c = search needs
 
 returns : tie.Need-returns
 returns c =
@@ -53,12 +25,6 @@ returns c =
         matches-mark (a .width) (a .panel) (a .lines) (a .words .now) (a .responses .now) (s .pre .0) care target bytes (s .pre .1) (m .result) (t .result) (m .ensures) (t .ensures) (r .ensures .1 .1),
       ),
     )
-
-same-length-3 : tie.Need-same-length-3
-same-length-3 c = search needs
-
-same-length-4 : tie.Need-same-length-4
-same-length-4 c = search needs
 
 returns-2 : tie.Need-returns-2
 returns-2 c =
@@ -81,14 +47,14 @@ pub sweep-search-spec : {M : Type 1} → statement M
 sweep-search-spec =
     tie.close
     (tie.spec
-    make-tags-requires
-    make-masks-requires
-    make-changes-requires
-    search-change-requires
-    search-requires
-    same-length
-    same-length-2
+    (λ c κs. search needs)
+    (λ c κs. search needs)
+    (λ c κs. search needs)
+    (λ c κs. search needs)
+    (λ c κs. search needs)
+    (λ c. search needs)
+    (λ c. search needs)
     returns
-    same-length-3
-    same-length-4
+    (λ c. search needs)
+    (λ c. search needs)
     returns-2)
