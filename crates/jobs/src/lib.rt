@@ -155,7 +155,7 @@ fn give(words: &mut [u64], responses: &mut [Response], width: u32, o: Job) -> St
     ensures { λ r. ⌜ now (responses .exit) ≡ pulsed (machine width (now (words .entry)) (now (responses .entry))) (command o .panel) (command o .lines) .responses ⌝ }
 {
     let command = commands::command_of(width, o);
-    let answer = cells::pulse(words, responses, width, command.panel, command.lines);
+    let answer = wide::pulse(words, responses, width, command.panel, command.lines);
     match answer {
         Answer::Done { count, read: _ } => Stepped::Gave {
             command,
