@@ -29,6 +29,15 @@ use Rattle.rounds.proofs.answer.Reads as answer-reads
 use Rattle.rounds.proofs.round as round
 use Rattle.rounds.proofs.round.Kinds as round-kinds
 use Rattle.rounds.proofs.round.Reads as round-reads
+use Rattle.jobs.proofs.start as start
+use Rattle.jobs.proofs.start.Kinds as start-kinds
+use Rattle.jobs.proofs.start.Reads as start-reads
+use Rattle.jobs.proofs.step as step
+use Rattle.jobs.proofs.step.Kinds as step-kinds
+use Rattle.jobs.proofs.step.Reads as step-reads
+use Rattle.jobs.proofs.totals.total as total
+use Rattle.jobs.proofs.totals.total.Kinds as total-kinds
+use Rattle.jobs.proofs.totals.total.Reads as total-reads
 
 pub plain-pulse-settled : (κs : Lfts 2) (a : ArgsD plain-pulse.signature κs) (r r′ : ResD plain-pulse.signature κs) (s s′ : AtExit (endedOf 2 plain-pulse-kinds.ps plain-pulse-kinds.r) κs)
     → plain-pulse-reads.Post κs a r s → plain-pulse-reads.Post κs a r′ s′ → (r ≡ r′) × (now (s .0) ≡ now (s′ .0)) × (now (s .1 .0) ≡ now (s′ .1 .0))
@@ -57,3 +66,15 @@ answer-settled κs a r r′ s s′ h g = (h .0 ∙ sym (g .0), h .1 ∙ sym (g .
 pub round-settled : (κs : Lfts 3) (a : ArgsD round.signature κs) (r r′ : ResD round.signature κs) (s s′ : AtExit (endedOf 3 round-kinds.ps round-kinds.r) κs)
     → round-reads.Post κs a r s → round-reads.Post κs a r′ s′ → (r ≡ r′) × (now (s .1 .0) ≡ now (s′ .1 .0))
 round-settled κs a r r′ s s′ h g = (h .0 ∙ sym (g .0), h .1 ∙ sym (g .1))
+
+pub start-settled : (κs : Lfts 2) (a : ArgsD start.signature κs) (r r′ : ResD start.signature κs) (s s′ : AtExit (endedOf 2 start-kinds.ps start-kinds.r) κs)
+    → start-reads.Post κs a r s → start-reads.Post κs a r′ s′ → r ≡ r′
+start-settled κs a r r′ s s′ h g = h ∙ sym g
+
+pub step-settled : (κs : Lfts 2) (a : ArgsD step.signature κs) (r r′ : ResD step.signature κs) (s s′ : AtExit (endedOf 2 step-kinds.ps step-kinds.r) κs)
+    → step-reads.Post κs a r s → step-reads.Post κs a r′ s′ → (r ≡ r′) × (now (s .0) ≡ now (s′ .0)) × (now (s .1 .0) ≡ now (s′ .1 .0))
+step-settled κs a r r′ s s′ h g = (h .0 ∙ sym (g .0), h .1 .0 ∙ sym (g .1 .0), h .1 .1 ∙ sym (g .1 .1))
+
+pub total-settled : (κs : Lfts 2) (a : ArgsD total.signature κs) (r r′ : ResD total.signature κs) (s s′ : AtExit (endedOf 2 total-kinds.ps total-kinds.r) κs)
+    → total-reads.Post κs a r s → total-reads.Post κs a r′ s′ → r ≡ r′
+total-settled κs a r r′ s s′ h g = h ∙ sym g
