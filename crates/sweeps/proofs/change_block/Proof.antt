@@ -1,0 +1,77 @@
+use Prim.Native.Nat.{ℕ}
+use mathlib.Core.Path.{_≡_, refl}
+use mathlib.Core.Bool.{Bool, true, false}
+use lib.Dec.{eqb}
+use Rattle.laws.specs.Bits.{pick}
+use Rattle.sweeps.specs.declared.Changes.{Changes}
+use Rattle.sweeps.specs.Rules.{gated, new}
+use Rattle.sweeps.proofs.Walks.{along-same}
+use borrow.Author.Needs.{needs}
+use Rattle.sweeps.proofs.change_block.Statement.{statement}
+use Rattle.sweeps.proofs.change_block.Tie as tie
+use Rattle.sweeps.proofs.change_block.Reads as reads
+use Rattle.sweeps.proofs.change_block.Lts as lts
+use Rattle.sweeps.proofs.multiadd.Reads as multiadd-reads
+use Rattle.sweeps.proofs.multiboth.Reads as multiboth-reads
+use Rattle.sweeps.proofs.multiwrite.Reads as multiwrite-reads
+
+multiboth-requires : tie.Need-multiboth-requires
+multiboth-requires c κs = search needs
+
+multiwrite-requires : tie.Need-multiwrite-requires
+multiwrite-requires c κs = search needs
+
+multiadd-requires : tie.Need-multiadd-requires
+multiadd-requires c κs = search needs
+
+same-length : tie.Need-same-length
+same-length c = search needs
+
+returns : tie.Need-returns
+returns c =
+    let e = c .before .before .before .before in
+    rw (e .before .if1 .taken, e .if2 .taken) (c .before .before .multiboth .ensures)
+
+same-length-2 : tie.Need-same-length-2
+same-length-2 c = search needs
+
+returns-2 : tie.Need-returns-2
+returns-2 c =
+    let e = c .before .before .before .before in
+    rw (e .before .if1 .taken, e .if2 .left) (c .before .before .multiwrite .ensures)
+
+same-length-3 : tie.Need-same-length-3
+same-length-3 c = search needs
+
+returns-3 : tie.Need-returns-3
+returns-3 c =
+    let e = c .before .before .before .before in
+    rw (e .before .if1 .left, e .if3 .taken) (c .before .before .multiadd .ensures)
+
+unchanged : (q : Changes) (x w : ℕ) → gated false false q x w ≡ w
+unfolding gated new
+unchanged q x w = same (eqb x 1)
+  where
+    same : (t : Bool) → pick t w w ≡ w
+    same true = refl
+    same false = refl
+
+returns-4 : tie.Need-returns-4
+returns-4 c =
+    let a = c .before .before .before .args in
+    rw (c .before .if1 .left, c .if3 .left) (along-same _ (unchanged (a .q)) (a .g .now) (a .words .now))
+
+pub change-block-spec : {M : Type 1} → statement M
+change-block-spec =
+    tie.close
+    (tie.spec
+    multiboth-requires
+    multiwrite-requires
+    multiadd-requires
+    same-length
+    returns
+    same-length-2
+    returns-2
+    same-length-3
+    returns-3
+    returns-4)
