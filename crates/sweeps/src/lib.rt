@@ -276,7 +276,14 @@ fn change_block(q: Changes, write: bool, add: bool, g: &[u8; 64], words: &mut [u
 }
 
 // Every chosen word written or not, added to or not; and how many are chosen.
-pub fn change(q: Changes, p: Tags, write: bool, add: bool, words: &mut [u64], responses: &[Response]) -> usize
+pub fn change(
+    q: Changes,
+    p: Tags,
+    write: bool,
+    add: bool,
+    words: &mut [u64],
+    responses: &[Response],
+) -> usize
     ensures { λ n. ⌜ n ≡ count (takes p) (now (responses .entry)) (now (words .entry)) ⌝ }
     ensures { λ n. ⌜ now (words .exit) ≡ along (changed write add q p) (now (responses .entry)) (now (words .entry)) ⌝ }
 {
@@ -295,7 +302,15 @@ pub fn change(q: Changes, p: Tags, write: bool, add: bool, words: &mut [u64], re
 
 // Search together with a change of words: a block's flags and choices first, from its words and response bits as they stood, then its words, then
 // its response bits.
-pub fn search_change(m: Masks, q: Changes, p: Tags, write: bool, add: bool, words: &mut [u64], responses: &mut [Response]) -> usize
+pub fn search_change(
+    m: Masks,
+    q: Changes,
+    p: Tags,
+    write: bool,
+    add: bool,
+    words: &mut [u64],
+    responses: &mut [Response],
+) -> usize
     ensures { λ n. ⌜ n ≡ count (found m p) (now (words .entry)) (now (responses .entry)) ⌝ }
     ensures { λ n. ⌜ now (words .exit) ≡ along (changed write add q p) (now (responses .entry)) (now (words .entry)) ⌝ }
     ensures { λ n. ⌜ now (responses .exit) ≡ along (answer m p) (now (words .entry)) (now (responses .entry)) ⌝ }

@@ -1,5 +1,6 @@
-use Prim.Native.Nat.{ℕ, _+_, _-_, _≤_, _<_}
-use mathlib.Core.Path.{_≡_, refl, sym, ap, ap₂, _∙_}
+-- The invariant: a walk along the words beside their response bits, and the count so far. One turn is one block.
+use Prim.Native.Nat.{_-_}
+use mathlib.Core.Path.{_≡_, refl, _∙_}
 use native.Mathlib.Omega.{arith}
 use lib.ListN.{length}
 use Rattle.sweeps.specs.Rules.{changed, takes}
@@ -9,16 +10,9 @@ use Rattle.sweeps.proofs.Searched.{rewritten, chosen-counted}
 use borrow.Author.Needs.{needs}
 use Rattle.sweeps.proofs.change.Statement.{statement}
 use Rattle.sweeps.proofs.change.Tie as tie
-use Rattle.sweeps.proofs.change.Reads as reads
-use Rattle.sweeps.proofs.change.Lts as lts
-use Rattle.sweeps.proofs.block_end.Reads as block-end-reads
-use Rattle.sweeps.proofs.change_block.Reads as change-block-reads
-use Rattle.sweeps.proofs.choices.Reads as choices-reads
-use Rattle.sweeps.proofs.shorter.Reads as shorter-reads
-use Rattle.sweeps.proofs.size.Reads as size-reads
 
 abbrev Inv-loop : tie.InvT-loop
-Inv-loop q p write add words₀ responses n₀ g₀ all i₀ words n g i = 
+Inv-loop q p write add words₀ responses n₀ g₀ all i₀ words n g i =
     Walk (changed write add q p) responses words₀ words i
     × Tally (takes p) responses words₀ n i
     × (length g ≡ 64)
@@ -26,63 +20,27 @@ Inv-loop q p write add words₀ responses n₀ g₀ all i₀ words n g i =
 abbrev μ-loop : tie.MeasureT-loop
 μ-loop q p write add words₀ responses n₀ g₀ all i₀ words n g i = all - i
 
-shorter-requires : tie.Need-shorter-requires Inv-loop μ-loop
-shorter-requires c κs = search needs
-
 loop-holds : tie.Need-loop-holds Inv-loop μ-loop
 loop-holds c = (start _ _ _, none-yet _ _ _, refl)
 
-block-end-requires : tie.Need-block-end-requires Inv-loop μ-loop
-block-end-requires c κs = search needs
-
-sub-choices : tie.Need-sub-choices Inv-loop μ-loop
-sub-choices c = search needs
-
-part-choices-start : tie.Need-part-choices-start Inv-loop μ-loop
-part-choices-start c = search needs
-
-part-choices-end : tie.Need-part-choices-end Inv-loop μ-loop
-part-choices-end c = search needs
-
 choices-requires : tie.Need-choices-requires Inv-loop μ-loop
-choices-requires c κs = 
+choices-requires c κs =
     let s = c .before .before .before .before in
     let e = c .before .before .block-end in (
       omega (arith, e .ensures, length-between (s .loop .i) (e .result) (s .before .before .before .before .args .responses .now) (search needs)),
       s .loop .inv .2,
     )
 
-size-requires : tie.Need-size-requires Inv-loop μ-loop
-size-requires c κs = search needs
-
-add-n : tie.Need-add-n Inv-loop μ-loop
-add-n c = search needs
-
-mul-change-block : tie.Need-mul-change-block Inv-loop μ-loop
-mul-change-block c = search needs
-
-sub-change-block : tie.Need-sub-change-block Inv-loop μ-loop
-sub-change-block c = search needs
-
-part-change-block-start : tie.Need-part-change-block-start Inv-loop μ-loop
-part-change-block-start c = search needs
-
-part-change-block-end : tie.Need-part-change-block-end Inv-loop μ-loop
-part-change-block-end c = search needs
-
 change-block-requires : tie.Need-change-block-requires Inv-loop μ-loop
-change-block-requires c κs = 
+change-block-requires c κs =
     let s = c .before .before .before .before .before .before .before .before in
     let e = c .before .before .before .before .before .before .block-end in (
       omega (arith, e .ensures, length-between (s .loop .i) (e .result) (s .loop .words) (search needs)),
       c .before .before .before .choices .ensures .1 .1,
     )
 
-loop-less : tie.Need-loop-less Inv-loop μ-loop
-loop-less c = search needs
-
 loop-again : tie.Need-loop-again Inv-loop μ-loop
-loop-again c = 
+loop-again c =
     let s = c .before .before .before .before .before .before .before .before .before .before .before in
     let a = s .before .before .before .before .args in
     let e = c .before .before .before .before .before .before .before .before .before .block-end in
@@ -96,11 +54,8 @@ loop-again c =
       d .ensures .1 .1,
     )
 
-same-length : tie.Need-same-length Inv-loop μ-loop
-same-length c = search needs
-
 returns : tie.Need-returns Inv-loop μ-loop
-returns c = 
+returns c =
     let s = c .before in
     let a = s .before .before .before .before .args in
     let w = s .loop .inv .0 in (
@@ -114,21 +69,21 @@ change-spec =
     (tie.spec
     Inv-loop
     μ-loop
-    shorter-requires
+    (λ c κs. search needs)
     loop-holds
-    block-end-requires
-    sub-choices
-    part-choices-start
-    part-choices-end
+    (λ c κs. search needs)
+    (λ c. search needs)
+    (λ c. search needs)
+    (λ c. search needs)
     choices-requires
-    size-requires
-    add-n
-    mul-change-block
-    sub-change-block
-    part-change-block-start
-    part-change-block-end
+    (λ c κs. search needs)
+    (λ c. search needs)
+    (λ c. search needs)
+    (λ c. search needs)
+    (λ c. search needs)
+    (λ c. search needs)
     change-block-requires
-    loop-less
+    (λ c. search needs)
     loop-again
-    same-length
+    (λ c. search needs)
     returns)

@@ -1,3 +1,4 @@
+-- Each branch is the loop whose rule it names; where neither is asked for, nothing changes.
 use Prim.Native.Nat.{ℕ}
 use mathlib.Core.Path.{_≡_, refl}
 use mathlib.Core.Bool.{Bool, true, false}
@@ -9,39 +10,16 @@ use Rattle.sweeps.proofs.Walks.{along-same}
 use borrow.Author.Needs.{needs}
 use Rattle.sweeps.proofs.change_block.Statement.{statement}
 use Rattle.sweeps.proofs.change_block.Tie as tie
-use Rattle.sweeps.proofs.change_block.Reads as reads
-use Rattle.sweeps.proofs.change_block.Lts as lts
-use Rattle.sweeps.proofs.multiadd.Reads as multiadd-reads
-use Rattle.sweeps.proofs.multiboth.Reads as multiboth-reads
-use Rattle.sweeps.proofs.multiwrite.Reads as multiwrite-reads
-
-multiboth-requires : tie.Need-multiboth-requires
-multiboth-requires c κs = search needs
-
-multiwrite-requires : tie.Need-multiwrite-requires
-multiwrite-requires c κs = search needs
-
-multiadd-requires : tie.Need-multiadd-requires
-multiadd-requires c κs = search needs
-
-same-length : tie.Need-same-length
-same-length c = search needs
 
 returns : tie.Need-returns
 returns c =
     let e = c .before .before .before .before in
     rw (e .before .if1 .taken, e .if2 .taken) (c .before .before .multiboth .ensures)
 
-same-length-2 : tie.Need-same-length-2
-same-length-2 c = search needs
-
 returns-2 : tie.Need-returns-2
 returns-2 c =
     let e = c .before .before .before .before in
     rw (e .before .if1 .taken, e .if2 .left) (c .before .before .multiwrite .ensures)
-
-same-length-3 : tie.Need-same-length-3
-same-length-3 c = search needs
 
 returns-3 : tie.Need-returns-3
 returns-3 c =
@@ -65,13 +43,13 @@ pub change-block-spec : {M : Type 1} → statement M
 change-block-spec =
     tie.close
     (tie.spec
-    multiboth-requires
-    multiwrite-requires
-    multiadd-requires
-    same-length
+    (λ c κs. search needs)
+    (λ c κs. search needs)
+    (λ c κs. search needs)
+    (λ c. search needs)
     returns
-    same-length-2
+    (λ c. search needs)
     returns-2
-    same-length-3
+    (λ c. search needs)
     returns-3
     returns-4)

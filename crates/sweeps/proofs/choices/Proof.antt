@@ -1,5 +1,6 @@
-use Prim.Native.Nat.{ℕ, _≤_, _<_, _+_, _-_}
-use mathlib.Core.Path.{_≡_, refl, sym, ap, _∙_}
+-- The invariant: the choices of the words passed stand in g, and the count so far.
+use Prim.Native.Nat.{ℕ, _≤_, _<_, _-_}
+use mathlib.Core.Path.{_≡_, refl, sym, _∙_}
 use mathlib.Core.Bool.{Bool, true, false}
 use native.Mathlib.Omega.{arith}
 use borrow.Author.Count.{below-more}
@@ -12,12 +13,9 @@ use Rattle.sweeps.proofs.Walks.{Tally, none-yet, step-counts, all-count
 use borrow.Author.Needs.{needs}
 use Rattle.sweeps.proofs.choices.Statement.{statement}
 use Rattle.sweeps.proofs.choices.Tie as tie
-use Rattle.sweeps.proofs.choices.Reads as reads
-use Rattle.sweeps.proofs.choices.Lts as lts
-use Rattle.sweeps.proofs.choice_of.Reads as choice-of-reads
 
 abbrev Inv-loop : tie.InvT-loop
-Inv-loop p responses g₀ n₀ i₀ g n i = 
+Inv-loop p responses g₀ n₀ i₀ g n i =
     (i ≤ length responses)
     × ((j : ℕ) → j < i → getD g j 0 ≡ choice p (getD responses j 0))
     × (length g ≡ 64)
@@ -41,28 +39,13 @@ choice-is p r e = e
 loop-holds : tie.Need-loop-holds Inv-loop μ-loop
 loop-holds c = (omega arith, (λ j k. absurd (omega arith)), c .before .pre .1, none-yet _ _ _)
 
-shared-slice-read-choice-of : tie.Need-shared-slice-read-choice-of Inv-loop μ-loop
-shared-slice-read-choice-of c = search needs
-
-choice-of-requires : tie.Need-choice-of-requires Inv-loop μ-loop
-choice-of-requires c κs = search needs
-
-element-write-g : tie.Need-element-write-g Inv-loop μ-loop
-element-write-g c = search needs
-
 add-n : tie.Need-add-n Inv-loop μ-loop
-add-n c = 
+add-n c =
     let s = c .before .before .before in
     omega (arith, c .choice-of .ensures, choice-le (s .before .before .args .p) (getD (s .before .before .args .responses .now) (s .loop .i) 0))
 
-add-i : tie.Need-add-i Inv-loop μ-loop
-add-i c = search needs
-
-loop-less : tie.Need-loop-less Inv-loop μ-loop
-loop-less c = search needs
-
 loop-again : tie.Need-loop-again Inv-loop μ-loop
-loop-again c = 
+loop-again c =
     let s = c .before .before .before in
     let a = s .before .before .args in
     let r = getD (a .responses .now) (s .loop .i) 0 in
@@ -77,7 +60,7 @@ loop-again c =
     )
 
 returns : tie.Need-returns Inv-loop μ-loop
-returns c = 
+returns c =
     let s = c .before in
     let a = s .before .before .args in (
       all-counted (λ x r. chosen (a .p) r) (a .responses .now) (a .responses .now) (s .loop .n) (s .loop .i) (s .loop .inv .3) (search needs) (search needs) (search needs)
@@ -92,11 +75,11 @@ choices-spec =
     Inv-loop
     μ-loop
     loop-holds
-    shared-slice-read-choice-of
-    choice-of-requires
-    element-write-g
+    (λ c. search needs)
+    (λ c κs. search needs)
+    (λ c. search needs)
     add-n
-    add-i
-    loop-less
+    (λ c. search needs)
+    (λ c. search needs)
     loop-again
     returns)

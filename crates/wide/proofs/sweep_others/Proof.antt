@@ -1,3 +1,4 @@
+-- What the sweeps promise by rule is what the machine's definitions say, with search not raised.
 use Prim.Native.Nat.{ℕ, _^_, _<_}
 use native.Mathlib.Omega.{arith}
 use lib.ListN.{getD}
@@ -6,33 +7,9 @@ use Rattle.wide.proofs.Swept.{words-change, selected-count, targets-fli
 use borrow.Author.Needs.{needs}
 use Rattle.wide.proofs.sweep_others.Statement.{statement}
 use Rattle.wide.proofs.sweep_others.Tie as tie
-use Rattle.wide.proofs.sweep_others.Reads as reads
-use Rattle.wide.proofs.sweep_others.Lts as lts
-use Rattle.sweeps.proofs.change.Reads as change-reads
-use Rattle.sweeps.proofs.flip.Reads as flip-reads
-use Rattle.wide.proofs.make_changes.Reads as make-changes-reads
-use Rattle.wide.proofs.make_tags.Reads as make-tags-reads
-
-make-tags-requires : tie.Need-make-tags-requires
-make-tags-requires c κs = search needs
-
-make-changes-requires : tie.Need-make-changes-requires
-make-changes-requires c κs = search needs
-
-change-requires : tie.Need-change-requires
-change-requires c κs = search needs
-
-flip-requires : tie.Need-flip-requires
-flip-requires c κs = search needs
-
-same-length : tie.Need-same-length
-same-length c = search needs
-
-same-length-2 : tie.Need-same-length-2
-same-length-2 c = search needs
 
 returns : tie.Need-returns
-returns c = 
+returns c =
     let s = c .before .before .before .before .before .before .before .before .before .before .before .before .before .before in
     let a = s .args in
     let care : a .panel .care < 2 ^ responseBits = omega (arith, s .good) in
@@ -48,14 +25,8 @@ returns c =
       ),
     )
 
-same-length-3 : tie.Need-same-length-3
-same-length-3 c = search needs
-
-same-length-4 : tie.Need-same-length-4
-same-length-4 c = search needs
-
 returns-2 : tie.Need-returns-2
-returns-2 c = 
+returns-2 c =
     let s = c .before .before .before .before .before .before .before .before .before .before in
     let a = s .args in
     let care : a .panel .care < 2 ^ responseBits = omega (arith, s .good) in
@@ -75,13 +46,13 @@ pub sweep-others-spec : {M : Type 1} → statement M
 sweep-others-spec =
     tie.close
     (tie.spec
-    make-tags-requires
-    make-changes-requires
-    change-requires
-    flip-requires
-    same-length
-    same-length-2
+    (λ c κs. search needs)
+    (λ c κs. search needs)
+    (λ c κs. search needs)
+    (λ c κs. search needs)
+    (λ c. search needs)
+    (λ c. search needs)
     returns
-    same-length-3
-    same-length-4
+    (λ c. search needs)
+    (λ c. search needs)
     returns-2)
