@@ -58,9 +58,20 @@ new false true q w = summed q w
 new true false q w = written q w
 new true true q w = bitOr (written q w) (summed q w)
 
+-- 1 where the word is chosen
+unfoldable pub choice : Tags → ℕ → ℕ
+choice p r = digit (chosen p r)
+
+-- of a choice and the word
+unfoldable pub gated : Bool → Bool → Changes → ℕ → ℕ → ℕ
+gated write add q x w = pick (eqb x 1) (new write add q w) w
+
 -- of the response bits and the word
 unfoldable pub changed : Bool → Bool → Changes → Tags → ℕ → ℕ → ℕ
-changed write add q p r w = pick (chosen p r) (new write add q w) w
+changed write add q p r w = gated write add q (choice p r) w
+
+abbrev pub takes : Tags → ℕ → ℕ → Bool
+takes p r w = chosen p r
 
 -- ---- complement
 

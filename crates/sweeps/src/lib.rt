@@ -9,7 +9,7 @@ ghost use Rattle.laws.specs.Bits.{pick};
 ghost use Rattle.laws.specs.Lists.{count};
 ghost use Rattle.sweeps.specs.Along.{along, each, many};
 ghost use Rattle.sweeps.specs.Along as lists;
-ghost use Rattle.sweeps.specs.Rules.{test, flag, chosen, hit, put, mark, found, answer, written, summed, new, changed, flipped};
+ghost use Rattle.sweeps.specs.Rules.{test, flag, chosen, hit, put, mark, found, answer, written, summed, new, choice, gated, changed, takes, flipped};
 use machine::Response;
 
 // What a search works out of the panel once. In each syllable the word's cared bits, turned by a flip, are held against a limit; the carry out of
@@ -61,6 +61,12 @@ pub fn chosen_of(p: Tags, r: Response) -> bool
     ensures { λ h. ⌜ h ≡ chosen p r ⌝ }
 {
     (r & p.care) == (p.key & p.care)
+}
+
+fn choice_of(p: Tags, r: Response) -> u8
+    ensures { λ x. ⌜ x ≡ choice p r ⌝ }
+{
+    chosen_of(p, r) as u8
 }
 
 fn hit_of(p: Tags, x: u8, r: Response) -> bool
@@ -185,33 +191,6 @@ pub fn search(m: Masks, p: Tags, words: &[u64], responses: &mut [Response]) -> u
     n
 }
 
-// How many words are selected: counted in bytes, a block at a time.
-fn tally_block(p: Tags, responses: &[Response]) -> u8
-    requires { ⌜ length (now responses) ≤ 64 ⌝ }
-    ensures { λ n. ⌜ n ≡ many (chosen p) (now (responses .entry)) ⌝ }
-{
-    let mut n: u8 = 0;
-    let mut i: usize = 0;
-    while i < responses.len() {
-        n += chosen_of(p, responses[i]) as u8;
-        i += 1;
-    }
-    n
-}
-
-pub fn tally(p: Tags, responses: &[Response]) -> usize
-    ensures { λ n. ⌜ n ≡ many (chosen p) (now (responses .entry)) ⌝ }
-{
-    let mut n: usize = 0;
-    let mut i: usize = 0;
-    while i < responses.len() {
-        let e = block_end(i, responses.len());
-        n += size(tally_block(p, &responses[i..e]));
-        i = e;
-    }
-    n
-}
-
 // Complement.
 pub fn flip(p: Tags, responses: &mut [Response])
     ensures { λ n. ⌜ now (responses .exit) ≡ each (flipped p) (now (responses .entry)) ⌝ }
@@ -223,50 +202,80 @@ pub fn flip(p: Tags, responses: &mut [Response])
     }
 }
 
-// Multiwrite alone.
-fn multiwrite(q: Changes, p: Tags, words: &mut [u64], responses: &[Response])
-    ensures { λ n. ⌜ now (words .exit) ≡ along (changed true false q p) (now (responses .entry)) (now (words .entry)) ⌝ }
+// A change of words, first half of a block: which words are chosen, and how many.
+fn choices(p: Tags, responses: &[Response], g: &mut [u8; 64]) -> u8
+    requires { ⌜ (length (now responses) ≤ 64) × (length (now g) ≡ 64) ⌝ }
+    ensures { λ n. ⌜ n ≡ many (chosen p) (now (responses .entry)) ⌝ }
+    ensures { λ n. ⌜ ((j : ℕ) → j < length (now (responses .entry)) → getD (now (g .exit)) j 0 ≡ choice p (getD (now (responses .entry)) j 0)) × (length (now (g .exit)) ≡ 64) ⌝ }
 {
-    let all = shorter(words.len(), responses.len());
+    let mut n: u8 = 0;
     let mut i: usize = 0;
-    while i < all {
+    while i < responses.len() {
+        let x = choice_of(p, responses[i]);
+        g[i] = x;
+        n += x;
+        i += 1;
+    }
+    n
+}
+
+// Second half, multiwrite alone.
+fn multiwrite(q: Changes, g: &[u8; 64], words: &mut [u64])
+    requires { ⌜ (length (now words) ≤ 64) × (length (now g) ≡ 64) ⌝ }
+    ensures { λ n. ⌜ now (words .exit) ≡ along (gated true false q) (now (g .entry)) (now (words .entry)) ⌝ }
+{
+    let mut i: usize = 0;
+    while i < words.len() {
         let w = words[i];
-        words[i] = kept(chosen_of(p, responses[i]), written_of(q, w), w);
+        words[i] = kept(g[i] == 1, written_of(q, w), w);
         i += 1;
     }
 }
 
-// Multiadd alone.
-fn multiadd(q: Changes, p: Tags, words: &mut [u64], responses: &[Response])
-    ensures { λ n. ⌜ now (words .exit) ≡ along (changed false true q p) (now (responses .entry)) (now (words .entry)) ⌝ }
+// Second half, multiadd alone.
+fn multiadd(q: Changes, g: &[u8; 64], words: &mut [u64])
+    requires { ⌜ (length (now words) ≤ 64) × (length (now g) ≡ 64) ⌝ }
+    ensures { λ n. ⌜ now (words .exit) ≡ along (gated false true q) (now (g .entry)) (now (words .entry)) ⌝ }
 {
-    let all = shorter(words.len(), responses.len());
     let mut i: usize = 0;
-    while i < all {
+    while i < words.len() {
         let w = words[i];
-        words[i] = kept(chosen_of(p, responses[i]), summed_of(q, w), w);
+        words[i] = kept(g[i] == 1, summed_of(q, w), w);
         i += 1;
     }
 }
 
-// Multiwrite and multiadd: "at each bit, the OR of the two results".
-fn multiboth(q: Changes, p: Tags, words: &mut [u64], responses: &[Response])
-    ensures { λ n. ⌜ now (words .exit) ≡ along (changed true true q p) (now (responses .entry)) (now (words .entry)) ⌝ }
+// Second half, multiwrite and multiadd: "at each bit, the OR of the two results".
+fn multiboth(q: Changes, g: &[u8; 64], words: &mut [u64])
+    requires { ⌜ (length (now words) ≤ 64) × (length (now g) ≡ 64) ⌝ }
+    ensures { λ n. ⌜ now (words .exit) ≡ along (gated true true q) (now (g .entry)) (now (words .entry)) ⌝ }
 {
-    let all = shorter(words.len(), responses.len());
     let mut i: usize = 0;
-    while i < all {
+    while i < words.len() {
         let w = words[i];
-        words[i] = kept(
-            chosen_of(p, responses[i]),
-            written_of(q, w) | summed_of(q, w),
-            w,
-        );
+        words[i] = kept(g[i] == 1, written_of(q, w) | summed_of(q, w), w);
         i += 1;
     }
 }
 
-// Every selected word written or not, added to or not.
+fn change_block(q: Changes, write: bool, add: bool, g: &[u8; 64], words: &mut [u64])
+    requires { ⌜ (length (now words) ≤ 64) × (length (now g) ≡ 64) ⌝ }
+    ensures { λ n. ⌜ now (words .exit) ≡ along (gated write add q) (now (g .entry)) (now (words .entry)) ⌝ }
+{
+    if write {
+        if add {
+            multiboth(q, g, words);
+        } else {
+            multiwrite(q, g, words);
+        }
+    } else {
+        if add {
+            multiadd(q, g, words);
+        }
+    }
+}
+
+// Every chosen word written or not, added to or not; and how many are chosen.
 pub fn change(
     q: Changes,
     p: Tags,
@@ -274,24 +283,25 @@ pub fn change(
     add: bool,
     words: &mut [u64],
     responses: &[Response],
-)
+) -> usize
+    ensures { λ n. ⌜ n ≡ count (takes p) (now (responses .entry)) (now (words .entry)) ⌝ }
     ensures { λ n. ⌜ now (words .exit) ≡ along (changed write add q p) (now (responses .entry)) (now (words .entry)) ⌝ }
 {
-    if write {
-        if add {
-            multiboth(q, p, words, responses);
-        } else {
-            multiwrite(q, p, words, responses);
-        }
-    } else {
-        if add {
-            multiadd(q, p, words, responses);
-        }
+    let mut n: usize = 0;
+    let mut g: [u8; 64] = [0; 64];
+    let all = shorter(words.len(), responses.len());
+    let mut i: usize = 0;
+    while i < all {
+        let e = block_end(i, all);
+        n += size(choices(p, &responses[i..e], &mut g));
+        change_block(q, write, add, &g, &mut words[i..e]);
+        i = e;
     }
+    n
 }
 
-// Search together with a change of words: a block's flags first, from its words as they stood, then its words by their response bits as they
-// stood, then its response bits.
+// Search together with a change of words: a block's flags and choices first, from its words and response bits as they stood, then its words, then
+// its response bits.
 pub fn search_change(
     m: Masks,
     q: Changes,
@@ -307,12 +317,14 @@ pub fn search_change(
 {
     let mut n: usize = 0;
     let mut h: [u8; 64] = [0; 64];
+    let mut g: [u8; 64] = [0; 64];
     let all = shorter(words.len(), responses.len());
     let mut i: usize = 0;
     while i < all {
         let e = block_end(i, all);
         flags(m, &words[i..e], &mut h);
-        change(q, p, write, add, &mut words[i..e], &responses[i..e]);
+        choices(p, &responses[i..e], &mut g);
+        change_block(q, write, add, &g, &mut words[i..e]);
         n += size(marks(p, &h, &mut responses[i..e]));
         i = e;
     }

@@ -23,7 +23,7 @@ use Rattle.fields.proofs.Turned.{limit}
 use Rattle.fields.proofs.Tested.{tested-word}
 use Rattle.fields.proofs.WordSum.{sum-word}
 use Rattle.fields.proofs.Reader.{all-satisfied-is, added-is}
-use Rattle.sweeps.specs.Rules.{test, flag, chosen, hit, put, mark, found, answer, written, summed, new, changed, flipped}
+use Rattle.sweeps.specs.Rules.{test, flag, chosen, hit, put, mark, found, answer, written, summed, new, choice, gated, changed, flipped}
 use Rattle.wide.specs.Plan.{masksOf, tagsOf, changesOf}
 use Rattle.wide.specs.Accepted.{Fit}
 
@@ -100,17 +100,21 @@ module _ (n : ℕ) (p : Panel) (f : Fit n p) (care : p .care < 2 ^ responseBits)
     pub changed-is : (write add : Bool) (r : ℕ)
         → let sel = selected (p .key) (p .care) r in
         changed write add (changesOf n p) (tagsOf p) r w ≡ m.change n (write && sel) (add && sel) w (m.written n p w) (m.added n p w)
-    unfolding changed
+    unfolding changed gated choice
     changed-is write add r =
-        ap₂ (λ (t : Bool) (x : ℕ). pick t x w) (chosen-is r) (new-is write add)
-        ∙ gated write add (selected (p .key) (p .care) r)
+        ap₂ (λ (t : Bool) (x : ℕ). pick t x w) (back (chosen (tagsOf p) r) ∙ chosen-is r) (new-is write add)
+        ∙ both write add (selected (p .key) (p .care) r)
       where
-        gated : (x y t : Bool) → pick t (m.change n x y w (m.written n p w) (m.added n p w)) w ≡ m.change n (x && t) (y && t) w (m.written n p w) (m.added n p w)
-        gated false false true = refl
-        gated false true true = refl
-        gated true false true = refl
-        gated true true true = refl
-        gated false false false = refl
-        gated false true false = refl
-        gated true false false = refl
-        gated true true false = refl
+        back : (t : Bool) → eqb (digit t) 1 ≡ t
+        back true = refl
+        back false = refl
+
+        both : (x y t : Bool) → pick t (m.change n x y w (m.written n p w) (m.added n p w)) w ≡ m.change n (x && t) (y && t) w (m.written n p w) (m.added n p w)
+        both false false true = refl
+        both false true true = refl
+        both true false true = refl
+        both true true true = refl
+        both false false false = refl
+        both false true false = refl
+        both true false false = refl
+        both true true false = refl

@@ -8,7 +8,7 @@ use native.Mathlib.Omega.{arith}
 use lib.ListN.{length, getD, set}
 use Rattle.laws.specs.Bits.{digit}
 use Rattle.laws.specs.Lists.{zip, count}
-use Rattle.sweeps.specs.Along.{along, each, many}
+use Rattle.sweeps.specs.Along.{along, each}
 
 -- ---- what a sweep does, as a walk over words and responses
 
@@ -46,12 +46,12 @@ second-stays k [] (r ∷ rs) e = absurd (omega arith)
 second-stays k (w ∷ ws) [] e = refl
 second-stays k (w ∷ ws) (r ∷ rs) e = ap (λ (xs : List ℕ). r ∷ xs) (second-stays (suc k) ws rs (omega arith))
 
-pub many-counts : (h : ℕ → Bool) (ws rs : List ℕ) → length rs ≡ length ws → many h rs ≡ count (λ w r. h r) ws rs
-unfolding many count
-many-counts h [] [] e = refl
-many-counts h [] (r ∷ rs) e = absurd (omega arith)
-many-counts h (w ∷ ws) [] e = refl
-many-counts h (w ∷ ws) (r ∷ rs) e = ap (λ (n : ℕ). digit (h r) + n) (many-counts h ws rs (omega arith))
+pub count-turned : (h : ℕ → ℕ → Bool) (ws rs : List ℕ) → count h rs ws ≡ count (λ w r. h r w) ws rs
+unfolding count
+count-turned h [] [] = refl
+count-turned h [] (r ∷ rs) = refl
+count-turned h (w ∷ ws) [] = refl
+count-turned h (w ∷ ws) (r ∷ rs) = ap (λ (n : ℕ). digit (h r w) + n) (count-turned h ws rs)
 
 -- ---- two rules that agree on numbers of the right size
 

@@ -18,11 +18,11 @@ use Rattle.machine.specs.Pulse.{written, added, change, wordAfter, responseAfte
 use Rattle.sweeps.specs.declared.Masks.{Masks}
 use Rattle.sweeps.specs.declared.Tags.{Tags}
 use Rattle.sweeps.specs.declared.Changes.{Changes}
-use Rattle.sweeps.specs.Along.{along, each, many}
-use Rattle.sweeps.specs.Rules.{chosen, found, answer, new, changed, flipped}
+use Rattle.sweeps.specs.Along.{along, each}
+use Rattle.sweeps.specs.Rules.{chosen, found, answer, new, changed, takes, flipped}
 use Rattle.wide.specs.Plan.{masksOf, tagsOf, changesOf}
 use Rattle.wide.specs.Accepted.{Fit, Accepted, multiAfter}
-use Rattle.wide.proofs.Lists.{second-along, first-along, second-each, first-stays, second-stays, many-counts, zip-like, count-like, zip-same, zip-set}
+use Rattle.wide.proofs.Lists.{second-along, first-along, second-each, first-stays, second-stays, count-turned, zip-like, count-like, zip-same, zip-set}
 use Rattle.wide.proofs.Bridge.{chosen-is, found-is, answer-is, flipped-as, new-is, changed-is}
 
 module _ (n : ℕ) (p : Panel) (l : Lines) (ws rs : List ℕ) (a : Accepted n p l ws rs)
@@ -75,12 +75,12 @@ module _ (n : ℕ) (p : Panel) (l : Lines) (ws rs : List ℕ) (a : Accepted n p 
   -- ---- search not raised
 
   module _ (s : l .search ≡ false) where
-    pub selected-count : (t : Tags) {k : ℕ} → t ≡ tagsOf p → k ≡ many (chosen t) rs → k ≡ count (counts n p l) ws rs
+    pub selected-count : (t : Tags) {k : ℕ} → t ≡ tagsOf p → k ≡ count (takes t) rs ws → k ≡ count (counts n p l) ws rs
     unfolding counts
     selected-count t g h =
         h
-        ∙ ap (λ (j : Tags). many (chosen j) rs) g
-        ∙ many-counts (chosen (tagsOf p)) ws rs (a .size)
+        ∙ ap (λ (j : Tags). count (takes j) rs ws) g
+        ∙ count-turned (takes (tagsOf p)) ws rs
         ∙ count-like _ _ (λ w r. chosen-is n p (a .fit) care target r ∙ rw s refl) ws rs
 
     pub targets-flip : (t : Tags) {rs′ : List ℕ} → t ≡ tagsOf p → l .complement ≡ true → rs′ ≡ each (flipped t) rs → rs′ ≡ zip (responseAfter n p l) 0 ws rs

@@ -237,8 +237,7 @@ fn sweep_others(
 {
     let tags = make_tags(panel);
     let changes = make_changes(width, panel);
-    let n = sweeps::tally(tags, responses);
-    sweeps::change(
+    let n = sweeps::change(
         changes,
         tags,
         lines.multiwrite,

@@ -1,55 +1,89 @@
--- Each branch is the loop whose rule it names; where neither is asked for, nothing changes.
-use Prim.Native.Nat.{ℕ}
-use mathlib.Core.Path.{_≡_, refl}
-use mathlib.Core.Bool.{Bool, true, false}
-use Rattle.laws.specs.Bits.{pick}
-use Rattle.sweeps.specs.declared.Changes.{Changes}
-use Rattle.sweeps.specs.declared.Tags.{Tags}
-use Rattle.sweeps.specs.Rules.{chosen, changed, new}
-use Rattle.sweeps.proofs.Walks.{along-same}
+-- The invariant: a walk along the words beside their response bits, and the count so far. One turn is one block.
+use Prim.Native.Nat.{_-_}
+use mathlib.Core.Path.{_≡_, refl, _∙_}
+use native.Mathlib.Omega.{arith}
+use lib.ListN.{length}
+use Rattle.sweeps.specs.Rules.{changed, takes}
+use Rattle.sweeps.proofs.Walks.{Walk, start, finish, Tally, none-yet, all-counted}
+use Rattle.sweeps.proofs.Blocks.{length-between}
+use Rattle.sweeps.proofs.Searched.{rewritten, chosen-counted}
 use borrow.Author.Needs.{needs}
 use Rattle.sweeps.proofs.change.Statement.{statement}
 use Rattle.sweeps.proofs.change.Tie as tie
 
-returns : tie.Need-returns
+abbrev Inv-loop : tie.InvT-loop
+Inv-loop q p write add words₀ responses n₀ g₀ all i₀ words n g i =
+    Walk (changed write add q p) responses words₀ words i
+    × Tally (takes p) responses words₀ n i
+    × (length g ≡ 64)
+
+abbrev μ-loop : tie.MeasureT-loop
+μ-loop q p write add words₀ responses n₀ g₀ all i₀ words n g i = all - i
+
+loop-holds : tie.Need-loop-holds Inv-loop μ-loop
+loop-holds c = (start _ _ _, none-yet _ _ _, refl)
+
+choices-requires : tie.Need-choices-requires Inv-loop μ-loop
+choices-requires c κs =
+    let s = c .before .before .before .before in
+    let e = c .before .before .block-end in (
+      omega (arith, e .ensures, length-between (s .loop .i) (e .result) (s .before .before .before .before .args .responses .now) (search needs)),
+      s .loop .inv .2,
+    )
+
+change-block-requires : tie.Need-change-block-requires Inv-loop μ-loop
+change-block-requires c κs =
+    let s = c .before .before .before .before .before .before .before .before in
+    let e = c .before .before .before .before .before .before .block-end in (
+      omega (arith, e .ensures, length-between (s .loop .i) (e .result) (s .loop .words) (search needs)),
+      c .before .before .before .choices .ensures .1 .1,
+    )
+
+loop-again : tie.Need-loop-again Inv-loop μ-loop
+loop-again c =
+    let s = c .before .before .before .before .before .before .before .before .before .before .before in
+    let a = s .before .before .before .before .args in
+    let e = c .before .before .before .before .before .before .before .before .before .block-end in
+    let d = c .before .before .before .before .before .before .choices in
+    let g = c .before .before .change-block in
+    let z = c .before .before .before .before .before .size in (
+      rewritten (s .loop .i) (e .result) (search needs) (a .responses .now) (a .words .now) (a .responses .now) (s .loop .words) (search needs) (search needs) refl
+          (a .write) (a .add) (a .q) (a .p) (d .last .1 .1 .0) (g .last .1 .1 .1 .1 .0) (s .loop .inv .0) (omega (arith, e .ensures, d .ensures .1 .1)) (d .ensures .1 .0) (g .ensures),
+      chosen-counted (s .loop .i) (e .result) (search needs) (a .responses .now) (a .words .now) (a .responses .now) (s .loop .words) (search needs) (search needs) refl
+          (a .p) (s .loop .n) (z .result) (s .loop .inv .1) (z .ensures ∙ d .ensures .0),
+      d .ensures .1 .1,
+    )
+
+returns : tie.Need-returns Inv-loop μ-loop
 returns c =
-    let e = c .before .before .before .before in
-    rw (e .before .if1 .taken, e .if2 .taken) (c .before .before .multiboth .ensures)
-
-returns-2 : tie.Need-returns-2
-returns-2 c =
-    let e = c .before .before .before .before in
-    rw (e .before .if1 .taken, e .if2 .left) (c .before .before .multiwrite .ensures)
-
-returns-3 : tie.Need-returns-3
-returns-3 c =
-    let e = c .before .before .before .before in
-    rw (e .before .if1 .left, e .if3 .taken) (c .before .before .multiadd .ensures)
-
-unchanged : (q : Changes) (p : Tags) (r w : ℕ) → changed false false q p r w ≡ w
-unfolding changed new
-unchanged q p r w = same (chosen p r)
-  where
-    same : (t : Bool) → pick t w w ≡ w
-    same true = refl
-    same false = refl
-
-returns-4 : tie.Need-returns-4
-returns-4 c =
-    let a = c .before .before .before .before .args in
-    rw (c .before .if1 .left, c .if3 .left) (along-same _ (unchanged (a .q) (a .p)) (a .responses .now) (a .words .now))
+    let s = c .before in
+    let a = s .before .before .before .before .args in
+    let w = s .loop .inv .0 in (
+      all-counted (takes (a .p)) (a .responses .now) (a .words .now) (s .loop .n) (s .loop .i) (s .loop .inv .1) (w .first) (w .second) (search needs),
+      finish _ _ _ _ (s .loop .i) w (search needs),
+    )
 
 pub change-spec : {M : Type 1} → statement M
 change-spec =
     tie.close
     (tie.spec
+    Inv-loop
+    μ-loop
     (λ c κs. search needs)
-    (λ c κs. search needs)
+    loop-holds
     (λ c κs. search needs)
     (λ c. search needs)
-    returns
     (λ c. search needs)
-    returns-2
     (λ c. search needs)
-    returns-3
-    returns-4)
+    choices-requires
+    (λ c κs. search needs)
+    (λ c. search needs)
+    (λ c. search needs)
+    (λ c. search needs)
+    (λ c. search needs)
+    (λ c. search needs)
+    change-block-requires
+    (λ c. search needs)
+    loop-again
+    (λ c. search needs)
+    returns)

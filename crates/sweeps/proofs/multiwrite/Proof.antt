@@ -1,38 +1,36 @@
--- The invariant: a walk along the words beside their response bits.
+-- The invariant: a walk along the words beside their choices.
 use Prim.Native.Nat.{ℕ, _-_}
-use mathlib.Core.Path.{_≡_, ap₂, _∙_}
-use mathlib.Core.Bool.{Bool, true, false}
-use lib.ListN.{getD}
+use mathlib.Core.Path.{_≡_, ap, _∙_}
+use mathlib.Core.Bool.{true, false}
+use lib.Dec.{eqb}
+use lib.ListN.{length, getD}
 use Rattle.laws.specs.Bits.{pick}
 use Rattle.sweeps.specs.declared.Changes.{Changes}
-use Rattle.sweeps.specs.declared.Tags.{Tags}
-use Rattle.sweeps.specs.Rules.{chosen, changed, new, written}
+use Rattle.sweeps.specs.Rules.{gated, new, written}
 use Rattle.sweeps.proofs.Walks.{Walk, start, step, finish}
 use borrow.Author.Needs.{needs}
 use Rattle.sweeps.proofs.multiwrite.Statement.{statement}
 use Rattle.sweeps.proofs.multiwrite.Tie as tie
 
 abbrev Inv-loop : tie.InvT-loop
-Inv-loop q p words₀ responses all i₀ words i = Walk (changed true false q p) responses words₀ words i
+Inv-loop q g words₀ i₀ words i = Walk (gated true false q) g words₀ words i
 
 abbrev μ-loop : tie.MeasureT-loop
-μ-loop q p words₀ responses all i₀ words i = all - i
+μ-loop q g words₀ i₀ words i = length words₀ - i
 
-kept-is : (q : Changes) (p : Tags) (r w : ℕ) {y z : ℕ} {t : Bool} → y ≡ pick t z w → t ≡ chosen p r → z ≡ written q w → y ≡ changed true false q p r w
-unfolding changed new
-kept-is q p r w e g h = e ∙ ap₂ (λ (b : Bool) (x : ℕ). pick b x w) g h
+kept-is : (q : Changes) (x w : ℕ) {y z : ℕ} → y ≡ pick (eqb x 1) z w → z ≡ written q w → y ≡ gated true false q x w
+unfolding gated new
+kept-is q x w e h = e ∙ ap (λ (z : ℕ). pick (eqb x 1) z w) h
 
 loop-holds : tie.Need-loop-holds Inv-loop μ-loop
 loop-holds c = start _ _ _
 
 loop-again : tie.Need-loop-again Inv-loop μ-loop
 loop-again c =
-    let s = c .before .before .before .before .before .before in
-    let a = s .before .before .before .before .args in
-    step (changed true false (a .q) (a .p)) (a .responses .now) (a .words .now) (s .loop .words) (s .loop .i) (s .loop .inv) (c .kept .result)
-    (search needs) (search needs)
-    (kept-is (a .q) (a .p) (getD (a .responses .now) (s .loop .i) 0) (getD (s .loop .words) (s .loop .i) 0) (c .kept .ensures)
-    (c .before .before .chosen-of .ensures) (c .before .written-of .ensures))
+    let s = c .before .before .before .before .before in
+    let a = s .before .before .args in
+    step (gated true false (a .q)) (a .g .now) (a .words .now) (s .loop .words) (s .loop .i) (s .loop .inv) (c .kept .result) (search needs) (search needs)
+    (kept-is (a .q) (getD (a .g .now) (s .loop .i) 0) (getD (s .loop .words) (s .loop .i) 0) (c .kept .ensures) (c .before .written-of .ensures))
 
 returns : tie.Need-returns Inv-loop μ-loop
 returns c = finish _ _ _ _ (c .before .loop .i) (c .before .loop .inv) (search needs)
@@ -43,12 +41,10 @@ multiwrite-spec =
     (tie.spec
     Inv-loop
     μ-loop
-    (λ c κs. search needs)
     loop-holds
     (λ c. search needs)
     (λ c. search needs)
     (λ c. search needs)
-    (λ c κs. search needs)
     (λ c κs. search needs)
     (λ c κs. search needs)
     (λ c. search needs)
