@@ -40,7 +40,14 @@ module _ (n y : ℕ) (s : Span) (v x : ℕ) (some : 0 < s .width) (fits : s .low
       ≡ (x % 2 ^ (lo + s .width) + v * 2 ^ lo) % 2 ^ (lo + s .width)
   first-sum =
       let e : suc t ≡ lo + s .width = omega arith in
-      rw (over-is x 0 (suc t) (bit x) (λ i. refl), over-is (v * 2 ^ lo) 0 (suc t) (addend (plus y s v .panel)) adds, e, div-one x, div-one (v * 2 ^ lo), add-mod-mod) (omega arith)
+      rw (
+        over-is x 0 (suc t) (bit x) (λ i. refl),
+        over-is (v * 2 ^ lo) 0 (suc t) (addend (plus y s v .panel)) adds,
+        e,
+        div-one x,
+        div-one (v * 2 ^ lo),
+        add-mod-mod,
+      ) (omega arith)
 
   -- above P nothing is added
   above-sum : (m : ℕ) → suc t + m ≡ n → sums (plus y s v .panel) x (tops n (2 ^ t) (suc t) m) ≡ x / 2 ^ (lo + s .width) * 2 ^ (lo + s .width)

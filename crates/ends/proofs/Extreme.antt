@@ -58,13 +58,14 @@ module _ (m : Machine) (s : Sound m) (b : Job) (f : ExtremeFields (m .width) b) 
       go t lit d later =
           let r = later (second i e h n) (trials.narrowed m s b f comp u g plan best i e h n d) in
           let l : suc i + (bit g i + ones i g) ≡ suc (suc (i + ones i g)) = omega arith in
+          let z = trials.tries m s b f comp u g plan best i e h n in
           let c = trials.count-more m s b f comp u g plan best i e h n d in
           let q : eqb (countedBy e (moved b 1 i 0)) 0 ≡ false = ne-eqb (countedBy e (moved b 1 i 0)) 0 (λ z. omega arith) in
           record {
             end = r .end;
             run = rw l (step-then e (moved b 1 i 0) (on (r .end) Nothing) (n .sound) (fits e (n .size) 1 refl)
                 (rw (plan .after-trial i (countedBy e (moved b 1 i 0)), q)
-                (step-then (tried i e h n) (moved b 2 i 0) (on (r .end) Nothing) (trials.tries m s b f comp u g plan best i e h n .sound) (fits (tried i e h n) (trials.tries m s b f comp u g plan best i e h n .size) 2 refl)
+                (step-then (tried i e h n) (moved b 2 i 0) (on (r .end) Nothing) (z .sound) (fits (tried i e h n) (z .size) 2 refl)
                 (rw (plan .after-second i (countedBy (tried i e h n) (moved b 2 i 0))) (r .run)))));
             narrow = r .narrow;
           }

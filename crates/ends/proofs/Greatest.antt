@@ -3,6 +3,7 @@
 use Prim.Native.Nat.{ℕ, _+_, _-_, _^_, _<_}
 use mathlib.Core.Path.{_≡_, refl, sym, ap, ap₂, _∙_}
 use mathlib.Core.Bool.{false}
+use mathlib.Core.List.{List}
 use native.Mathlib.Nat.{div-one}
 use native.Mathlib.Omega.{arith}
 use lib.Dec.{eqb}
@@ -59,7 +60,8 @@ module _ (m : Machine) (o : Job) (accepted : Accepted m o) (kind : kindOf (o .ki
   pub greatest-pulses : pulses m (first o) ≡ 1 + o .a .width + ones (o .a .width) top
   unfolding pulses
   greatest-pulses =
-      rw (first-is o most kind) (rw kind (ap (λ (vs : _). 1 + o .a .width + ones (o .a .width) (greatestOf vs)) (values-like o (held o) refl refl refl (m .words) (m .responses))))
+      rw (first-is o most kind)
+      (rw kind (ap (λ (vs : List ℕ). 1 + o .a .width + ones (o .a .width) (greatestOf vs)) (values-like o (held o) refl refl refl (m .words) (m .responses))))
 
   whole : Whole m o (done .end)
   whole = rw (greatest-pulses, first-is o most kind) (done .run)

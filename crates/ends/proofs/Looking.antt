@@ -93,9 +93,13 @@ module _ (n key care t mask comp : ℕ) where
       → bit (responseAfter n (look key care t mask comp .panel) (look key care t mask comp .lines) k w r) t
       ≡ digit (matches n (look key care t mask comp .panel) w r)
   unfolding responseAfter marked
-  look-target k w r h = number-bit responseBits _ (λ j g. mark-lt (eqb (bit (2 ^ t) j) 1) (matches n (look key care t mask comp .panel) w r) (bit-lt (digit-at r j))) t h ∙ rw (one-here t)
+  look-target k w r h =
+      number-bit responseBits _ (λ j g. mark-lt (eqb (bit (2 ^ t) j) 1) (matches n (look key care t mask comp .panel) w r) (bit-lt (digit-at r j))) t h
+      ∙ rw (one-here t)
 
   pub look-others : (k w r i : ℕ) → i < responseBits → (i ≡ t → ⊥)
       → bit (responseAfter n (look key care t mask comp .panel) (look key care t mask comp .lines) k w r) i ≡ bit r i
   unfolding responseAfter marked
-  look-others k w r i h g = number-bit responseBits _ (λ j q. mark-lt (eqb (bit (2 ^ t) j) 1) (matches n (look key care t mask comp .panel) w r) (bit-lt (digit-at r j))) i h ∙ rw (one-there t i g)
+  look-others k w r i h g =
+      number-bit responseBits _ (λ j q. mark-lt (eqb (bit (2 ^ t) j) 1) (matches n (look key care t mask comp .panel) w r) (bit-lt (digit-at r j))) i h
+      ∙ rw (one-there t i g)

@@ -146,7 +146,9 @@ module _ (o : Job) (m : Machine) (s : Sound m) (y-works : Working (o .care) (o .
     gained false = rw (zero-mul v) (gains-none (o .p) (word m k))
 
   pub sound₂ : Sound m₂
-  sound₂ = sound-after m₁ sound₁ (multiadd .panel) (multiadd .lines) (λ k w r h. rw (plus-word (m₁ .width) (o .y) (o .p) v k w r) (go (selected (2 ^ o .y) (2 ^ o .y) r) w h))
+  sound₂ =
+      sound-after m₁ sound₁ (multiadd .panel) (multiadd .lines)
+      (λ k w r h. rw (plus-word (m₁ .width) (o .y) (o .p) v k w r) (go (selected (2 ^ o .y) (2 ^ o .y) r) w h))
     where
       go : (b : Bool) (w : ℕ) → w < 2 ^ m₁ .width → pick b (added (m₁ .width) (multiadd .panel) w) w < 2 ^ m₁ .width
       go true w h = plus-fits (m₁ .width) (o .y) (o .p) v w (p .some) (rw (size₁ .width) (p .fits)) small h

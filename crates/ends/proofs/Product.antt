@@ -12,7 +12,7 @@ use Rattle.jobs.specs.declared.Held.the-variants.{Holds}
 use Rattle.jobs.specs.Fields.{product, kindOf, badScaledAdd, badProduct, badUsed}
 use Rattle.jobs.specs.Places.{first, firstFor, moved}
 use Rattle.jobs.specs.Totals.{sumBelow, valueOf, pulses}
-use Rattle.ends.specs.Ends.{Accepted, Course, ended, Adds}
+use Rattle.ends.specs.Ends.{Accepted, Course, ended, productGain, Adds}
 use Rattle.ends.proofs.Fields.{ProductFields, product-fields}
 use Rattle.ends.proofs.Passing.{adds-like}
 use Rattle.ends.proofs.Visits.{start, Visited, visits}
@@ -64,9 +64,9 @@ module _ (m : Machine) (o : Job) (accepted : Accepted m o) (kind : kindOf (o .ki
   product-course = whole-course m o (visited .end) whole (visited .sound)
 
   -- "P holds the stated value in selected words; all other data bits, and response bits but the job's working ones, are unchanged."
-  pub product-ends : Adds o (λ w. valueOf (o .a) w * valueOf (o .b) w) m (ended m o)
+  pub product-ends : Adds o (productGain o) m (ended m o)
   product-ends =
-      let a = adds-like (held o) (fields .both .y-works) _ (λ w. valueOf (o .a) w * valueOf (o .b) w) m (visited .end)
+      let a = adds-like (held o) (fields .both .y-works) _ (productGain o) m (visited .end)
       (λ w. product-sum (held o) w (valueOf (o .p) w)) (visited .adds) in
       rw (whole-ended m o (visited .end) whole)
       (record { size = a .size; holds = a .holds; outside = a .outside; unselected = a .unselected; responses = a .responses })

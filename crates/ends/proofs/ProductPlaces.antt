@@ -102,7 +102,8 @@ module _ (n : ℕ) (b : Job) (kind : kindOf (b .kind) ≡ product) (used : badPr
     second-fits = placed 2 i j refl l r;
     small = pow-lt (omega arith);
     found = λ w. both-found n (b .a .low .0 + i) (b .b .low .0 + j) w (omega (arith, fields .both .a .fits)) (omega (arith, fields .b .fits));
-    kept = λ w x h. ap₂ (λ (y z : ℕ). eqb y 1 && eqb z 1) (h (b .a .low .0 + i) (fields .both .a-apart i (omega arith))) (h (b .b .low .0 + j) (fields .b-apart j (omega arith)));
+    kept = λ w x h. ap₂ (λ (y z : ℕ). eqb y 1 && eqb z 1) (h (b .a .low .0 + i) (fields .both .a-apart i (omega arith)))
+        (h (b .b .low .0 + j) (fields .b-apart j (omega arith)));
   }
 
   second-is : (i j c : ℕ) → next (moved b 2 i j) c ≡ nextWithin (moved b 2 i j)

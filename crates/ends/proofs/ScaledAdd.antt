@@ -10,7 +10,7 @@ use Rattle.jobs.specs.declared.Held.the-variants.{Holds}
 use Rattle.jobs.specs.Fields.{scaledAdd, kindOf, badScaledAdd, badUsed}
 use Rattle.jobs.specs.Places.{first, firstFor, moved}
 use Rattle.jobs.specs.Totals.{valueOf, pulses}
-use Rattle.ends.specs.Ends.{Accepted, Course, ended, Adds}
+use Rattle.ends.specs.Ends.{Accepted, Course, ended, scaledGain, Adds}
 use Rattle.ends.proofs.Fields.{AddFields, add-fields}
 use Rattle.ends.proofs.Passing.{adds-like}
 use Rattle.ends.proofs.Parts.{part}
@@ -30,7 +30,7 @@ starts b (suc k) h = refl
 
 -- what the places add is c times A
 gains : (b : Job) (w : ℕ)
-    → (valueOf (b .p) w + total (ups b 0 (lesser b)) w) % 2 ^ b .p .width ≡ (valueOf (b .p) w + b .c * valueOf (b .a) w) % 2 ^ b .p .width
+    → (valueOf (b .p) w + total (ups b 0 (lesser b)) w) % 2 ^ b .p .width ≡ (valueOf (b .p) w + scaledGain b w) % 2 ^ b .p .width
 gains b w =
     let e : b .a .low .0 + 0 ≡ b .a .low .0 = omega arith in
     let d : 2 ^ 0 * part (b .a .low .0) (lesser b) w ≡ part (b .a .low .0) (lesser b) w = omega arith in
@@ -68,8 +68,8 @@ module _ (m : Machine) (o : Job) (accepted : Accepted m o) (kind : kindOf (o .ki
   scaled-add-course = whole-course m o (visited .end) whole (visited .sound)
 
   -- "P holds the stated value in selected words; all other data bits, and response bits but the job's working ones, are unchanged."
-  pub scaled-add-ends : Adds o (λ w. o .c * valueOf (o .a) w) m (ended m o)
+  pub scaled-add-ends : Adds o (scaledGain o) m (ended m o)
   scaled-add-ends =
-      let a = adds-like (held o) (fields .y-works) _ (λ w. o .c * valueOf (o .a) w) m (visited .end) (gains (held o)) (visited .adds) in
+      let a = adds-like (held o) (fields .y-works) _ (scaledGain o) m (visited .end) (gains (held o)) (visited .adds) in
       rw (whole-ended m o (visited .end) whole)
       (record { size = a .size; holds = a .holds; outside = a .outside; unselected = a .unselected; responses = a .responses })

@@ -10,7 +10,7 @@ use native.Mathlib.Omega.{arith}
 use lib.Dec.{ltb, eqb}
 use lib.ListN.{length}
 use lib.Pow.{pow-pos}
-use borrow.Author.Tests.{lt-ltb, le-ltb}
+use borrow.Author.Tests.{lt-ltb, le-ltb, ltb-true}
 use Rattle.laws.specs.Bits.{bit, pick}
 use Rattle.jobs.specs.declared.Job.{Job}
 use Rattle.jobs.specs.declared.Held.the-variants.{Nothing, Holds}
@@ -58,7 +58,7 @@ pub above-none : (b : Job) (f i j : ℕ) → lesser b ≤ suc i → nextAbove (m
 above-none b f i j h = above-is b f i j false (go (ltb (suc i) (b .a .width)) refl)
   where
     go : (t : Bool) → ltb (suc i) (b .a .width) ≡ t → (t && ltb (suc i) (b .p .width)) ≡ false
-    go true e = le-ltb (suc i) (b .p .width) (omega (arith, borrow.Author.Tests.ltb-true (suc i) (b .a .width) e))
+    go true e = le-ltb (suc i) (b .p .width) (omega (arith, ltb-true (suc i) (b .a .width) e))
     go false e = refl
 
 module _ (n : ℕ) (b : Job) (kind : kindOf (b .kind) ≡ scaledAdd) (used : badScaledAdd n b ≡ false) (clear : (eqb (b .x) 0 && isZero (b .b)) ≡ true) where

@@ -1,6 +1,6 @@
 -- Document 01, 'Jobs': the words in which a job's end is told.
 -- Assumes nothing.
-use Prim.Native.Nat.{ℕ, _+_, _%_, _^_, _≤_, _<_}
+use Prim.Native.Nat.{ℕ, _+_, _*_, _%_, _^_, _≤_, _<_}
 use mathlib.Core.Path.{_≡_}
 use mathlib.Core.Bool.{Bool, true, false, _&&_}
 use mathlib.Core.Logic.{_⊎_}
@@ -73,8 +73,15 @@ pub record SameSize (m e : Machine) : Type 0 where
   pub words : length (e .words) ≡ length (m .words)
   pub responses : length (e .responses) ≡ length (m .responses)
 
+-- what P gains in a word: "P becomes P+c·A", "P becomes P+A·B"
+abbrev pub scaledGain : Job → ℕ → ℕ
+scaledGain o w = o .c * valueOf (o .a) w
+
+abbrev pub productGain : Job → ℕ → ℕ
+productGain o w = valueOf (o .a) w * valueOf (o .b) w
+
 -- scaled add and product: "P holds the stated value in selected words; all other data bits, and response bits but the job's working ones,
--- are unchanged". `gain` is what a word adds to its P.
+-- are unchanged"; "sums are modulo 2^p".
 pub record Adds (o : Job) (gain : ℕ → ℕ) (m e : Machine) : Type 0 where
   pub size : SameSize m e
   pub holds : (k : ℕ) → k < length (m .words) → chosen m o k ≡ true
