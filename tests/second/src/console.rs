@@ -1,0 +1,434 @@
+//! The console: one machine, and the language it is driven by.
+
+use crate::cells::CELLS;
+use crate::image;
+use crate::jobs::{self, Job, Span};
+use crate::line::Line;
+use crate::machine::{Machine, Refusal, MOST_WORDS};
+use crate::panel::{Lines, Panel};
+use crate::pulse::{pulse, Way};
+use crate::resolve;
+use crate::round::{self, Verdict};
+use crate::wide::WIDE;
+
+/// "A width, a buffer of words, a buffer of responses, a panel and the held
+/// job, if any."
+pub struct Console {
+    pub machine: Machine,
+    pub panel: Panel,
+    pub job: Option<Job>,
+}
+
+/// What a well-formed line prints: its answer or a refusal.
+type Outcome = Result<String, Refusal>;
+
+/// The most entries of a buffer the host makes.
+const MOST_ENTRIES: u64 = 2048;
+/// The most bytes of an output for `room`.
+const MOST_ROOM: u64 = 20_000;
+
+impl Console {
+    /// "It starts as after `machine 8 3`."
+    pub fn new() -> Console {
+        Console {
+            machine: Machine::blank(8, 3),
+            panel: Panel::default(),
+            job: None,
+        }
+    }
+
+    /// What a line prints, without its last newline, or nothing for a line
+    /// that prints nothing.
+    pub fn answer(&mut self, line: &Line) -> Option<String> {
+        if line.is_silent() {
+            return None;
+        }
+        if line.too_long {
+            return Some("bad line".to_string());
+        }
+        Some(match self.obey(&line.words()) {
+            Some(Ok(text)) => text,
+            Some(Err(refusal)) => refusal_text(refusal),
+            None => "bad line".to_string(),
+        })
+    }
+
+    /// One command; nothing for a bad line, which changes nothing.
+    fn obey(&mut self, words: &[&[u8]]) -> Option<Outcome> {
+        match words {
+            [b"machine", width, n] => self.make(width, n),
+            [b"lend", m] => self.lend(m),
+            [b"word", index, value] => self.write_word(index, value),
+            [b"response", index, value] => self.write_response(index, value),
+            [b"load", register, value] => self.load(register, value),
+            [b"pulse", lines @ ..] => self.pulse(&WIDE, lines),
+            [b"cells", lines @ ..] => self.pulse(&CELLS, lines),
+            [b"resolve"] => Some(self.resolve()),
+            [b"tree"] => Some(self.tree()),
+            [b"start", fields @ ..] => self.start(fields),
+            [b"job", fields @ ..] => self.write_job(fields),
+            [b"drop"] => self.drop_job(),
+            [b"step"] => Some(self.step()),
+            [b"run"] => Some(self.run()),
+            [b"total"] => Some(self.total()),
+            [b"show", x] => self.show(x),
+            [b"done", x, f, word] => self.answer_round(Verdict::Done, x, f, word),
+            [b"faulty", x, f, word] => self.answer_round(Verdict::Faulty, x, f, word),
+            [b"store"] => Some(self.store()),
+            [b"room", size] => self.room(size),
+            [b"resume", digits @ ..] => self.resume(digits),
+            [b"fit", words, responses, digits @ ..] => self.fit(words, responses, digits),
+            [b"list"] => Some(self.list()),
+            [b"panel"] => Some(Ok(self.panel_text())),
+            _ => None,
+        }
+    }
+
+    fn make(&mut self, width: &[u8], n: &[u8]) -> Option<Outcome> {
+        let width = small(width)?;
+        let n = decimal(n, MOST_ENTRIES)?;
+        self.machine = Machine::blank(width, n as usize);
+        self.panel = Panel::default();
+        self.job = None;
+        ok()
+    }
+
+    fn lend(&mut self, m: &[u8]) -> Option<Outcome> {
+        let m = decimal(m, MOST_ENTRIES)?;
+        self.machine.responses = vec![0; m as usize];
+        ok()
+    }
+
+    fn write_word(&mut self, index: &[u8], value: &[u8]) -> Option<Outcome> {
+        let value = hex(value, u64::MAX)?;
+        *self.machine.words.get_mut(index_of(index)?)? = value;
+        ok()
+    }
+
+    fn write_response(&mut self, index: &[u8], value: &[u8]) -> Option<Outcome> {
+        let value = hex_byte(value)?;
+        *self.machine.responses.get_mut(index_of(index)?)? = value;
+        ok()
+    }
+
+    /// "Loading one register of the panel changes that register and no other."
+    fn load(&mut self, register: &[u8], value: &[u8]) -> Option<Outcome> {
+        match register {
+            b"comp" => self.panel.comp = hex(value, u64::MAX)?,
+            b"sdr" => self.panel.sdr = hex(value, u64::MAX)?,
+            b"sc1" => self.panel.sc1 = hex(value, u64::MAX)?,
+            b"sc2" => self.panel.sc2 = hex(value, u64::MAX)?,
+            b"mor" => self.panel.mor = hex(value, u64::MAX)?,
+            b"key" => self.panel.key = hex_byte(value)?,
+            b"care" => self.panel.care = hex_byte(value)?,
+            b"target" => self.panel.target = hex_byte(value)?,
+            b"address" => self.panel.address = decimal(value, u64::MAX)?,
+            _ => return None,
+        }
+        ok()
+    }
+
+    fn pulse(&mut self, way: &Way, names: &[&[u8]]) -> Option<Outcome> {
+        let lines = lines_of(names)?;
+        let answer = pulse(way, &mut self.machine, &self.panel, lines);
+        Some(answer.map(|a| format!("count {} read {:016X}", a.count, a.read)))
+    }
+
+    fn resolve(&self) -> Outcome {
+        resolve::scan(&self.machine, self.panel.key, self.panel.care).map(word_text)
+    }
+
+    fn tree(&self) -> Outcome {
+        resolve::tree(&self.machine, self.panel.key, self.panel.care).map(word_text)
+    }
+
+    fn start(&mut self, fields: &[&[u8]]) -> Option<Outcome> {
+        let wish = wish_of(fields)?;
+        let outcome = jobs::start(&self.machine, &mut self.job, &wish);
+        Some(outcome.map(|()| "ok".to_string()))
+    }
+
+    /// The host writes the record itself; afterwards it is the held one.
+    fn write_job(&mut self, fields: &[&[u8]]) -> Option<Outcome> {
+        self.job = Some(record_of(fields)?);
+        ok()
+    }
+
+    fn drop_job(&mut self) -> Option<Outcome> {
+        self.job = None;
+        ok()
+    }
+
+    fn step(&mut self) -> Outcome {
+        jobs::step(&mut self.machine, &mut self.job).map(step_text)
+    }
+
+    /// "At least one step, then steps until no job is held or a step is
+    /// refused"; a refusal of the first step is the answer.
+    fn run(&mut self) -> Outcome {
+        jobs::step(&mut self.machine, &mut self.job)?;
+        let mut pulses = 1;
+        while self.job.is_some() && jobs::step(&mut self.machine, &mut self.job).is_ok() {
+            pulses += 1;
+        }
+        Ok(format!("pulses {pulses}"))
+    }
+
+    fn total(&self) -> Outcome {
+        jobs::total(&self.machine, &self.job).map(|pulses| format!("pulses {pulses}"))
+    }
+
+    fn show(&self, x: &[u8]) -> Option<Outcome> {
+        let x = small(x)?;
+        Some(round::show(&self.machine, x).map(word_text))
+    }
+
+    fn answer_round(
+        &mut self,
+        verdict: Verdict,
+        x: &[u8],
+        f: &[u8],
+        word: &[u8],
+    ) -> Option<Outcome> {
+        let x = small(x)?;
+        let f = small(f)?;
+        let word = decimal(word, u64::MAX)?;
+        let outcome = round::answer(&mut self.machine, verdict, x, f, word);
+        Some(outcome.map(|()| "ok".to_string()))
+    }
+
+    fn store(&self) -> Outcome {
+        let bytes = image::write(&self.machine, &self.job, MOST_ROOM as usize)?;
+        let digits: String = bytes.iter().map(|byte| format!("{byte:02X}")).collect();
+        Ok(format!("image {digits}"))
+    }
+
+    fn room(&self, size: &[u8]) -> Option<Outcome> {
+        let size = decimal(size, MOST_ROOM)?;
+        let written = image::write(&self.machine, &self.job, size as usize);
+        Some(written.map(|bytes| format!("image {}", bytes.len())))
+    }
+
+    /// "Into the machine's own buffers, made 1024 long for it."
+    fn resume(&mut self, digits: &[&[u8]]) -> Option<Outcome> {
+        let bytes = image_of(digits)?;
+        Some(self.read(&bytes, MOST_WORDS, MOST_WORDS))
+    }
+
+    fn fit(&mut self, words: &[u8], responses: &[u8], digits: &[&[u8]]) -> Option<Outcome> {
+        let words = decimal(words, MOST_ENTRIES)?;
+        let responses = decimal(responses, MOST_ENTRIES)?;
+        let bytes = image_of(digits)?;
+        Some(self.read(&bytes, words as usize, responses as usize))
+    }
+
+    /// "The machine is then the one read, the panel stays."
+    fn read(&mut self, bytes: &[u8], words: usize, responses: usize) -> Outcome {
+        let (machine, job) = image::read(bytes, words, responses)?;
+        self.machine = machine;
+        self.job = job;
+        Ok("ok".to_string())
+    }
+
+    /// "The head and one for each word, contents hex, 16 and 2 capital digits,
+    /// other numbers decimal, nothing for a job."
+    fn list(&self) -> Outcome {
+        let bytes = image::write(&self.machine, &self.job, MOST_ROOM as usize)?;
+        let (machine, _) = image::read(&bytes, MOST_WORDS, MOST_WORDS)?;
+        let mut text = format!("words {} width {}", machine.words.len(), machine.width);
+        let entries = machine.words.iter().zip(&machine.responses);
+        for (index, (word, response)) in entries.enumerate() {
+            text.push_str(&format!("\n{index} {word:016X} {response:02X}"));
+        }
+        Ok(text)
+    }
+
+    fn panel_text(&self) -> String {
+        let registers = registers_text(&self.panel);
+        format!("{registers} address {}", self.panel.address)
+    }
+}
+
+impl Default for Console {
+    fn default() -> Console {
+        Console::new()
+    }
+}
+
+fn ok() -> Option<Outcome> {
+    Some(Ok("ok".to_string()))
+}
+
+/// "A refusal prints `refused K`, for number 3 `refused 3 word I`, for number
+/// 9 `refused 9 at I`."
+fn refusal_text(refusal: Refusal) -> String {
+    match refusal.number {
+        3 => format!("refused 3 word {}", refusal.also),
+        9 => format!("refused 9 at {}", refusal.also),
+        number => format!("refused {number}"),
+    }
+}
+
+fn word_text(found: Option<usize>) -> String {
+    match found {
+        Some(index) => format!("word {index}"),
+        None => "none".to_string(),
+    }
+}
+
+fn registers_text(panel: &Panel) -> String {
+    format!(
+        "comp {:016X} sdr {:016X} sc1 {:016X} sc2 {:016X} mor {:016X} key {:02X} care {:02X} target {:02X}",
+        panel.comp,
+        panel.sdr,
+        panel.sc1,
+        panel.sc2,
+        panel.mor,
+        panel.key,
+        panel.care,
+        panel.target
+    )
+}
+
+fn step_text(step: jobs::Step) -> String {
+    let line = if step.lines.search {
+        "search"
+    } else {
+        "multiadd"
+    };
+    let registers = registers_text(&step.command);
+    let end = if step.held { "held" } else { "ended" };
+    format!("{line} {registers} count {} {end}", step.count)
+}
+
+/// "Decimal digits with no sign; leading zeros are taken"; at most `most`.
+fn decimal(word: &[u8], most: u64) -> Option<u64> {
+    let mut value: u128 = 0;
+    for byte in word {
+        let digit = Some(*byte).filter(u8::is_ascii_digit)?;
+        value = value * 10 + u128::from(digit - b'0');
+        if value > u128::from(most) {
+            return None;
+        }
+    }
+    Some(value as u64).filter(|_| !word.is_empty())
+}
+
+/// A decimal number where no range is given: 0 to 255.
+fn small(word: &[u8]) -> Option<u8> {
+    decimal(word, 255).map(|value| value as u8)
+}
+
+/// The number of an entry of a buffer.
+fn index_of(word: &[u8]) -> Option<usize> {
+    usize::try_from(decimal(word, u64::MAX)?).ok()
+}
+
+/// The value of one hex digit, either case.
+fn hex_digit(byte: u8) -> Option<u64> {
+    (byte as char).to_digit(16).map(u64::from)
+}
+
+/// "HEX is 1 to 16 digits, either case, so 17 digits are a bad line even with
+/// leading zeros."
+fn hex(word: &[u8], most: u64) -> Option<u64> {
+    if word.is_empty() || word.len() > 16 {
+        return None;
+    }
+    let mut value = 0;
+    for byte in word {
+        value = value * 16 + hex_digit(*byte)?;
+    }
+    Some(value).filter(|value| *value <= most)
+}
+
+/// Hex of at most FF.
+fn hex_byte(word: &[u8]) -> Option<u8> {
+    hex(word, 0xFF).map(|value| value as u8)
+}
+
+/// "An image is one word of digit pairs, or no word for an image of no bytes."
+fn image_of(words: &[&[u8]]) -> Option<Vec<u8>> {
+    let digits: &[u8] = match words {
+        [] => &[],
+        [digits] => digits,
+        _ => return None,
+    };
+    let mut bytes = Vec::new();
+    for pair in digits.chunks(2) {
+        match pair {
+            [high, low] => bytes.push((hex_digit(*high)? * 16 + hex_digit(*low)?) as u8),
+            _ => return None,
+        }
+    }
+    Some(bytes)
+}
+
+/// The lines of a pulse, "each at most once, in any order; none is taken too".
+fn lines_of(names: &[&[u8]]) -> Option<Lines> {
+    let mut lines = Lines::default();
+    for name in names {
+        let line = lines.named(name)?;
+        if *line {
+            return None;
+        }
+        *line = true;
+    }
+    Some(lines)
+}
+
+/// KIND KEY CARE X Y AL AW BL BW PL PW C: a job to be started.
+fn wish_of(fields: &[&[u8]]) -> Option<Job> {
+    match fields {
+        [head @ .., c] if head.len() == 11 => {
+            let mut job = head_of(head)?;
+            job.c = hex(c, u64::MAX)?;
+            Some(job)
+        }
+        _ => None,
+    }
+}
+
+/// KIND KEY CARE X Y AL AW BL BW PL PW PHASE I J C: a job's whole record.
+fn record_of(fields: &[&[u8]]) -> Option<Job> {
+    match fields {
+        [head @ .., phase, i, j, c] if head.len() == 11 => {
+            let mut job = head_of(head)?;
+            job.phase = small(phase)?;
+            job.i = small(i)?;
+            job.j = small(j)?;
+            job.c = hex(c, u64::MAX)?;
+            Some(job)
+        }
+        _ => None,
+    }
+}
+
+/// The eleven fields that `start` and `job` begin with.
+fn head_of(fields: &[&[u8]]) -> Option<Job> {
+    match fields {
+        [kind, key, care, x, y, spans @ ..] if spans.len() == 6 => Some(Job {
+            kind: small(kind)?,
+            key: hex_byte(key)?,
+            care: hex_byte(care)?,
+            x: small(x)?,
+            y: small(y)?,
+            a: span_of(&spans[0..2])?,
+            b: span_of(&spans[2..4])?,
+            p: span_of(&spans[4..6])?,
+            ..Job::default()
+        }),
+        _ => None,
+    }
+}
+
+/// A syllable's lowest bit and width.
+fn span_of(fields: &[&[u8]]) -> Option<Span> {
+    match fields {
+        [low, width] => Some(Span {
+            low: small(low)?,
+            width: small(width)?,
+        }),
+        _ => None,
+    }
+}

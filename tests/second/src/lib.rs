@@ -1,0 +1,16 @@
+//! A second associative processor, written plainly from the build
+//! specification and from the page on the console's language. It exists to be
+//! held against the board: clarity comes before speed.
+
+pub mod cells;
+pub mod console;
+pub mod image;
+pub mod jobs;
+pub mod line;
+pub mod machine;
+pub mod panel;
+pub mod pulse;
+pub mod resolve;
+pub mod round;
+pub mod syllable;
+pub mod wide;
