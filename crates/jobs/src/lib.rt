@@ -1,5 +1,9 @@
 // Jobs: what a job is, when it is turned down, its commands and its places, and the calls start, step and total.
 // Document 01: 'Jobs', 'The image' (phase, i and j) and number 8.
+mod commands;
+mod fields;
+mod places;
+
 use machine::BitSlice;
 use machine::Lines;
 use machine::Panel;

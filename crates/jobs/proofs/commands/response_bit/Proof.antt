@@ -1,0 +1,13 @@
+use Rattle.jobs.proofs.Shifts as shifts
+use borrow.Author.Needs.{needs}
+use Rattle.jobs.proofs.commands.response_bit.Statement.{statement}
+use Rattle.jobs.proofs.commands.response_bit.Tie as tie
+
+shl-result : tie.Need-shl-result
+shl-result c = search needs
+
+returns : tie.Need-returns
+returns c = shifts.one-shifted (c .args .x) 8 (c .pre)
+
+pub response-bit-spec : {M : Type 1} → statement M
+response-bit-spec = tie.close (tie.spec shl-result returns)

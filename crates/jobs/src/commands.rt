@@ -1,0 +1,179 @@
+// Document 01, 'Jobs': the command at each place of a job. "Registers not mentioned are 0 in its commands."
+use crate::Command;
+use crate::Job;
+use crate::Span;
+use machine::Lines;
+use machine::Panel;
+use machine::Response;
+use machine::WordSlice;
+ghost use mathlib.Core.Path.{_≡_};
+ghost use mathlib.Core.Bool.{false};
+ghost use Prim.Native.Nat.{_+_, _-_, _*_, _%_, _^_, _≤_, _<_};
+ghost use Rattle.jobs.specs.Fields.{kindOf};
+ghost use Rattle.jobs.specs.Places.{badHeld};
+ghost use Rattle.jobs.specs.Commands as commands;
+
+// ---- registers
+
+// Response bit x alone.
+pub(crate) fn response_bit(x: u8) -> Response
+    requires { ⌜ x < 8 ⌝ }
+    ensures { λ r. ⌜ r ≡ 2 ^ x ⌝ }
+{
+    1u8 << x
+}
+
+// Bit i of a syllable, at its place in the word.
+pub(crate) fn bit_of(s: Span, i: u8) -> u64
+    requires { ⌜ s .low .0 + i < 64 ⌝ }
+    ensures { λ r. ⌜ r ≡ commands.bitOf s i ⌝ }
+{
+    1u64 << (s.low.0 + i)
+}
+
+// The k lowest bits.
+pub(crate) fn low_bits(k: u8) -> u64
+    requires { ⌜ (0 < k) × (k ≤ 64) ⌝ }
+    ensures { λ r. ⌜ r ≡ 2 ^ k - 1 ⌝ }
+{
+    u64::MAX >> (64 - k)
+}
+
+// "c·2^i mod 2^p"
+pub(crate) fn scaled(c: u64, i: u8, p: u8) -> u64
+    requires { ⌜ (i < p) × (p ≤ 64) ⌝ }
+    ensures { λ r. ⌜ r ≡ c * 2 ^ i % 2 ^ p ⌝ }
+{
+    (c << i) & low_bits(p)
+}
+
+// ---- the two forms of a command
+
+// Search the bits of the mask exact as in comp, under (key, care), target bit t.
+pub(crate) fn look(key: Response, care: Response, t: u8, mask: u64, comp: u64) -> Command
+    requires { ⌜ t < 8 ⌝ }
+    ensures { λ r. ⌜ r ≡ commands.look key care t mask comp ⌝ }
+{
+    Command {
+        panel: Panel {
+            comp,
+            sdr: 0,
+            sc1: 0,
+            sc2: mask,
+            mor: 0,
+            key,
+            care,
+            target: response_bit(t),
+            address: WordSlice(0),
+        },
+        lines: Lines {
+            search: true,
+            read: false,
+            write: false,
+            add: false,
+            multiwrite: false,
+            multiadd: false,
+            complement: false,
+        },
+    }
+}
+
+// "Adds set MOR to P's bits and SDR to P's top bit."
+pub(crate) fn plus(y: u8, s: Span, v: u64) -> Command
+    requires { ⌜ y < 8 ⌝ }
+    requires { ⌜ (0 < s .width) × (s .low .0 + s .width ≤ 64) × (v < 2 ^ s .width) ⌝ }
+    ensures { λ r. ⌜ r ≡ commands.plus y s v ⌝ }
+{
+    let low = s.low.0;
+    let under = response_bit(y);
+    let run = low_bits(s.width) << low;
+    Command {
+        panel: Panel {
+            comp: v << low,
+            sdr: 1u64 << (low + s.width - 1),
+            sc1: 0,
+            sc2: 0,
+            mor: run,
+            key: under,
+            care: under,
+            target: 0,
+            address: WordSlice(0),
+        },
+        lines: Lines {
+            search: false,
+            read: false,
+            write: false,
+            add: false,
+            multiwrite: false,
+            multiadd: true,
+            complement: false,
+        },
+    }
+}
+
+// ---- the command at a place
+
+// The trial search.
+pub(crate) fn trial(n: u32, o: Job) -> Command
+    requires { ⌜ n ≤ 64 ⌝ }
+    requires { ⌜ badHeld n o ≡ false ⌝ }
+    ensures { λ r. ⌜ r ≡ commands.trial (kindOf (o .kind)) o ⌝ }
+{
+    let kind = o.kind;
+    match kind {
+        1 => {
+            let x = response_bit(o.x);
+            let a = bit_of(o.a, o.i);
+            look(x, x, o.y, a, a)
+        }
+        2 => {
+            let x = response_bit(o.x);
+            let a = bit_of(o.a, o.i);
+            look(x, x, o.y, a, 0)
+        }
+        3 => {
+            let a = bit_of(o.a, o.i);
+            look(o.key, o.care, o.y, a, a)
+        }
+        4 => {
+            let both = bit_of(o.a, o.i) | bit_of(o.b, o.j);
+            look(o.key, o.care, o.y, both, both)
+        }
+        _ => look(0, 0, 0, 0, 0),
+    }
+}
+
+// The pulse after it.
+pub(crate) fn second(n: u32, o: Job) -> Command
+    requires { ⌜ n ≤ 64 ⌝ }
+    requires { ⌜ badHeld n o ≡ false ⌝ }
+    ensures { λ r. ⌜ r ≡ commands.second (kindOf (o .kind)) o ⌝ }
+{
+    let kind = o.kind;
+    match kind {
+        1 => {
+            let y = response_bit(o.y);
+            look(y, y, o.x, 0, 0)
+        }
+        2 => {
+            let y = response_bit(o.y);
+            look(y, y, o.x, 0, 0)
+        }
+        3 => plus(o.y, o.p, scaled(o.c, o.i, o.p.width)),
+        4 => plus(o.y, o.p, scaled(1, o.i + o.j, o.p.width)),
+        _ => look(0, 0, 0, 0, 0),
+    }
+}
+
+pub(crate) fn command_of(n: u32, o: Job) -> Command
+    requires { ⌜ n ≤ 64 ⌝ }
+    requires { ⌜ badHeld n o ≡ false ⌝ }
+    ensures { λ r. ⌜ r ≡ commands.command o ⌝ }
+{
+    let phase = o.phase;
+    match phase {
+        0 => look(o.key, o.care, o.x, 0, 0),
+        1 => trial(n, o),
+        _ => second(n, o),
+    }
+}
