@@ -9,6 +9,8 @@ use machine::Lines;
 use machine::Panel;
 use machine::Refusal;
 use machine::Response;
+ghost use mathlib.Core.Path.{_≡_};
+ghost use Rattle.jobs.specs.Places.{badHeld};
 
 // "A syllable here is a lowest bit and a width."
 pub struct Span {
@@ -65,4 +67,13 @@ pub enum Stepped {
 pub enum Total {
     Pulses(u64),
     Refused(Refusal),
+}
+
+// ---- number 8 of a held job
+
+// "after the start": used fields as at the start, the others 0, a place of the table.
+pub fn bad_held(width: u32, o: Job) -> bool
+    ensures { λ r. ⌜ r ≡ badHeld width o ⌝ }
+{
+    fields::bad_used(width, o) | !fields::unused_zero(o) | !places::in_table(o)
 }

@@ -1,0 +1,5 @@
+-- laws of the image: bytes and numbers, stores, fields, the calls
+pub mod Bytes
+pub mod Storing
+pub mod Scans
+pub mod WriteCalls

@@ -1,0 +1,25 @@
+use borrow.Author.Needs.{needs}
+use Rattle.image.proofs.fields.job_count_right.Statement.{statement}
+use Rattle.image.proofs.fields.job_count_right.Tie as tie
+use Rattle.image.proofs.fields.job_count_right.Reads as reads
+use Rattle.image.proofs.fields.job_count_right.Lts as lts
+use Rattle.image.proofs.fields.number_at.Reads as number-at-reads
+
+-- src/fields.rt:138:8
+sub-if1 : tie.Need-sub-if1
+sub-if1 c = search needs
+
+-- src/fields.rt:139:9
+returns : tie.Need-returns
+returns c = ?
+
+-- src/fields.rt:141:5
+number-at-requires : tie.Need-number-at-requires
+number-at-requires c κs = search needs
+
+-- src/fields.rt:134:1
+returns-2 : tie.Need-returns-2
+returns-2 c = ?
+
+pub job-count-right-spec : {M : Type 1} → statement M
+job-count-right-spec = tie.close (tie.spec sub-if1 returns number-at-requires returns-2)

@@ -1,0 +1,57 @@
+use borrow.Author.Needs.{needs}
+use Rattle.image.proofs.stores.put_held.Statement.{statement}
+use Rattle.image.proofs.stores.put_held.Tie as tie
+use Rattle.image.proofs.stores.put_held.Reads as reads
+use Rattle.image.proofs.stores.put_held.Lts as lts
+use Rattle.image.proofs.stores.put.Reads as put-reads
+use Rattle.image.proofs.stores.put_job.Reads as put-job-reads
+
+-- src/stores.rt:102:30
+enum-told : tie.Need-enum-told
+enum-told c = search needs
+
+-- src/stores.rt:102:26
+put-requires : tie.Need-put-requires
+put-requires c κs = search needs
+
+-- src/stores.rt:103:21
+enum-known-held : tie.Need-enum-known-held
+enum-known-held c = search needs
+
+-- src/stores.rt:104:17
+put-requires-2 : tie.Need-put-requires-2
+put-requires-2 c κs = search needs
+
+-- src/stores.rt:105:13
+put-job-requires : tie.Need-put-job-requires
+put-job-requires c κs = ?
+
+-- src/stores.rt:97:1
+same-length : tie.Need-same-length
+same-length c = search needs
+
+-- src/stores.rt:97:1
+returns : tie.Need-returns
+returns c = ?
+
+-- src/stores.rt:97:1
+same-length-2 : tie.Need-same-length-2
+same-length-2 c = search needs
+
+-- src/stores.rt:97:1
+returns-2 : tie.Need-returns-2
+returns-2 c = ?
+
+pub put-held-spec : {M : Type 1} → statement M
+put-held-spec =
+    tie.close
+    (tie.spec
+    enum-told
+    put-requires
+    enum-known-held
+    put-requires-2
+    put-job-requires
+    same-length
+    returns
+    same-length-2
+    returns-2)
