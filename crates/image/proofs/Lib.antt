@@ -3,3 +3,4 @@ pub mod Bytes
 pub mod Storing
 pub mod Scans
 pub mod WriteCalls
+pub mod ReadCalls

@@ -150,3 +150,44 @@ long b h =
       room = omega (arith, f7 .0);
       some = leb-true 1 n (and-left (leb 1 n) (leb n 1024) (f2 .held .right));
     }
+
+-- ---- the code's own steps
+
+pub word-step : (w i : ℕ) (b : List ℕ) (fs : List Field) → holds (wordField w) (drop (9 + 8 * i) b) ≡ true
+    → scan (wordField w ∷ fs) (9 + 8 * i) (drop (9 + 8 * i) b) ≡ scan fs (9 + 8 * (i + 1)) (drop (9 + 8 * (i + 1)) b)
+word-step w i b fs h =
+    let e : 9 + 8 * i + 8 ≡ 9 + 8 * (i + 1) = omega arith in
+    field-right (wordField w) fs b (9 + 8 * i) h ∙ ap (λ (q : ℕ). scan fs q (drop q b)) e
+
+pub after-cut : (w n : ℕ) (b : List ℕ) → 9 + 8 * n ≤ length b → holds (countIs n) (drop (9 + 8 * n) b) ≡ true → length b - (9 + 8 * n + 4) < n
+    → scan (afterWords w n b) (9 + 8 * n) (drop (9 + 8 * n) b) ≡ Broken (length b)
+after-cut w n b l h g =
+    let f : 9 + 8 * n + 4 ≤ length b = held (countIs n) b (9 + 8 * n) l h .fits in
+    field-right (countIs n) _ b (9 + 8 * n) h ∙ responses-cut b n (9 + 8 * n + 4) _ f (omega arith)
+
+pub after-right : (w n : ℕ) (b : List ℕ) → holds (countIs n) (drop (9 + 8 * n) b) ≡ true → 13 + 9 * n ≤ length b
+    → scan (afterWords w n b) (9 + 8 * n) (drop (9 + 8 * n) b) ≡ scan (jobFields w (13 + 9 * n) b) (13 + 9 * n) (drop (13 + 9 * n) b)
+after-right w n b h g =
+    let e : 9 + 8 * n + 4 + n ≡ 13 + 9 * n = omega arith in
+    field-right (countIs n) _ b (9 + 8 * n) h ∙ responses-right b n (9 + 8 * n + 4) _ (omega arith)
+    ∙ ap (λ (q : ℕ). scan (jobFields w (13 + 9 * n) b) q (drop q b)) e
+
+pub job-none : (w at : ℕ) (b : List ℕ) → holds jobCount (drop at b) ≡ true → value (take 4 (drop at b)) ≡ 0
+    → scan (jobFields w at b) at (drop at b) ≡ scan [] (at + 4) (drop (at + 4) b)
+job-none w at b h e = field-right jobCount _ b at h ∙ ap (λ (k : ℕ). scan (replicate k (jobField w)) (at + 4) (drop (at + 4) b)) e
+
+pub job-one : (w at : ℕ) (b : List ℕ) → at ≤ length b → holds jobCount (drop at b) ≡ true → (value (take 4 (drop at b)) ≡ 0 → ⊥)
+    → scan (jobFields w at b) at (drop at b) ≡ scan (jobField w ∷ []) (at + 4) (drop (at + 4) b)
+job-one w at b l h g =
+    let f : value (take 4 (drop at b)) ≤ 1 = leb-true (value (take 4 (drop at b))) 1 (held jobCount b at l h .right) in
+    field-right jobCount _ b at h ∙ ap (λ (k : ℕ). scan (replicate k (jobField w)) (at + 4) (drop (at + 4) b)) (one (value (take 4 (drop at b))) f g)
+  where
+    one : (v : ℕ) → v ≤ 1 → (v ≡ 0 → ⊥) → v ≡ 1
+    one zero p q = absurd (q refl)
+    one (suc v) p q = omega arith
+
+pub job-end : (w at : ℕ) (b : List ℕ) → holds (jobField w) (drop (at + 4) b) ≡ true
+    → scan (jobField w ∷ []) (at + 4) (drop (at + 4) b) ≡ scan [] (at + 26) (drop (at + 26) b)
+job-end w at b h =
+    let e : at + 4 + 22 ≡ at + 26 = omega arith in
+    field-right (jobField w) [] b (at + 4) h ∙ ap (λ (q : ℕ). scan [] q (drop q b)) e

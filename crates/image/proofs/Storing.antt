@@ -10,7 +10,9 @@ use lib.ListN.{length, take, drop, getD, set, length-append}
 use lib.Seq.{sets, drop-cons, drop-drop, drop-length}
 use Rattle.machine.specs.Machine.{Machine}
 use Rattle.jobs.specs.declared.Job.{Job}
-use Rattle.image.specs.Format.{bytes, value, items, section, jobBytes}
+use Rattle.jobs.specs.declared.Held.{Held}
+use Rattle.jobs.specs.declared.Held.the-variants.{Nothing, Holds}
+use Rattle.image.specs.Format.{bytes, value, items, section, jobBytes, heldJobs}
 use Rattle.image.specs.Reading.{numbers}
 use Rattle.image.specs.Parts.{machineBytes}
 use Rattle.image.proofs.Bytes.{AreBytes, under-at, length-bytes, length-items, items-one, value-one}
@@ -108,3 +110,12 @@ wrote-machine m d d0 d1 d2 d3 d4 d5 p0 p1 p2 p3 p4 p5 e0 e1 e2 e3 e4 e5 =
     let r : items (bytes 1) (m .responses) ≡ m .responses = items-one (m .responses) (under-at 256 (m .responses) (e5 .2)) in
     (omega arith,
     rw r (simp (append-nil, append-assoc) (simp (e5 .1, e4 .1, e3 .1, e2 .1, e1 .1, e0 .1, sets-append, length-bytes, length-items, e4 .0, e3 .0, e2 .0, e1 .0, e0 .0, zero-add))))
+
+-- the job's section, by what is held
+pub stored-none : (h : Held) (d d1 : List ℕ) (at r : ℕ) → h ≡ Nothing → (r ≡ at + 4) × (d1 ≡ sets d at (bytes 4 0))
+    → (r ≡ at + (4 + 22 * length (heldJobs h))) × (d1 ≡ sets d at (section jobBytes (heldJobs h)))
+stored-none h d d1 at r e f = rw e (f .0, wrote-none d d1 at (f .1))
+
+pub stored-one : (h : Held) (o : Job) (d d1 d2 : List ℕ) (at p r : ℕ) → h ≡ Holds o → (p ≡ at + 4) × (d1 ≡ sets d at (bytes 4 1)) → (r ≡ p + 22) × (d2 ≡ sets d1 p (jobBytes o))
+    → (r ≡ at + (4 + 22 * length (heldJobs h))) × (d2 ≡ sets d at (section jobBytes (heldJobs h)))
+stored-one h o d d1 d2 at p r e f g = rw e (omega arith, wrote-one o d d1 d2 at p (f .0) (f .1) (g .1))

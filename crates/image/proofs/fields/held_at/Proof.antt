@@ -1,3 +1,11 @@
+use Prim.Native.Nat.{ℕ, zero, suc, _+_, _-_, _*_, _^_, _≤_, _<_}
+use mathlib.Core.Path.{_≡_, refl, sym, ap, _∙_}
+use native.Mathlib.Omega.{arith}
+use lib.ListN.{take, drop}
+use Rattle.jobs.specs.declared.Held.{Held}
+use Rattle.jobs.specs.declared.Held.the-variants.{Nothing, Holds}
+use Rattle.image.specs.Format.{value, jobOf}
+use Rattle.image.proofs.ReadCalls.{zero-picks, other-picks}
 use borrow.Author.Needs.{needs}
 use Rattle.image.proofs.fields.held_at.Statement.{statement}
 use Rattle.image.proofs.fields.held_at.Tie as tie
@@ -12,7 +20,10 @@ number-at-requires c κs = search needs
 
 -- src/fields.rt:84:9
 returns : tie.Need-returns
-returns c = ?
+returns c = 
+    let a = c .before .before .before .args in
+    zero-picks (value (take 4 (drop (a .at) (a .image .now)))) Nothing (Holds (jobOf (take 22 (drop (a .at + 4) (a .image .now)))))
+    (sym (c .before .number-at .ensures) ∙ c .if1 .taken)
 
 -- src/fields.rt:86:31
 add-job-at : tie.Need-add-job-at
@@ -24,7 +35,11 @@ job-at-requires c κs = search needs
 
 -- src/fields.rt:79:1
 returns-2 : tie.Need-returns-2
-returns-2 c = ?
+returns-2 c = 
+    let a = c .before .before .before .before .args in
+    ap Holds (c .job-at .ensures)
+    ∙ other-picks (value (take 4 (drop (a .at) (a .image .now)))) Nothing (Holds (jobOf (take 22 (drop (a .at + 4) (a .image .now)))))
+    (λ z. c .before .if1 .left (c .before .before .number-at .ensures ∙ z))
 
 pub held-at-spec : {M : Type 1} → statement M
 held-at-spec = tie.close (tie.spec number-at-requires returns add-job-at job-at-requires returns-2)

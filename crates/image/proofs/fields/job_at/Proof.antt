@@ -1,3 +1,8 @@
+use Prim.Native.Nat.{ℕ, zero, suc, _+_, _-_, _*_, _^_, _≤_, _<_}
+use mathlib.Core.Path.{_≡_, refl, sym, ap, _∙_}
+use native.Mathlib.Omega.{arith}
+use lib.ListN.{take, drop}
+use Rattle.image.proofs.Bytes.{job-tail, made}
 use borrow.Author.Needs.{needs}
 use Rattle.image.proofs.fields.job_at.Statement.{statement}
 use Rattle.image.proofs.fields.job_at.Tie as tie
@@ -61,7 +66,13 @@ number-at-requires c κs = search needs
 
 -- src/fields.rt:55:1
 returns : tie.Need-returns
-returns c = ?
+returns c = 
+    let a = c .before .before .before .before .before .before .before .before .before .before .before .before .before .args in
+    made (take 22 (drop (a .at) (a .image .now))) _ _ _ _ _ _ _ _ _ _ _ _
+    (c .before .before .before .before .before .before .before .before .byte-at .ensures) (c .before .before .before .before .before .before .before .byte-at2 .ensures) (c .before .before .before .before .before .before .byte-at3 .ensures) (c .before .before .before .before .before .byte-at4 .ensures)
+    (c .before .before .before .before .byte-at5 .ensures) (c .before .before .before .before .before .before .before .before .before .before .before .span-at .ensures) (c .before .before .before .before .before .before .before .before .before .before .span-at2 .ensures)
+    (c .before .before .before .before .before .before .before .before .before .span-at3 .ensures) (c .before .before .before .byte-at6 .ensures) (c .before .before .byte-at7 .ensures) (c .before .byte-at8 .ensures)
+    (job-tail (a .image .now) (a .at) _ (c .number-at .ensures))
 
 pub job-at-spec : {M : Type 1} → statement M
 job-at-spec =

@@ -51,7 +51,7 @@ loop-again c =
     let a = c .before .before .before .args in
     (omega arith, simp length-set (omega arith),
     sym (list-turn (l .out) (a .at) (a .list .now) (l .i) (search needs)) ∙ l .inv .2,
-    one-below (a .list .now) (l .i) (l .inv .3) (c .shared-slice-known .given (l .i)))
+    one-below (a .list .now) (l .i) (l .inv .3) (omega (arith, c .shared-slice-known .given (l .i))))
 
 -- src/stores.rt:53:5
 add-result : tie.Need-add-result Inv-loop μ-loop

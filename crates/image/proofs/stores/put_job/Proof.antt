@@ -1,3 +1,7 @@
+use Prim.Native.Nat.{ℕ, zero, suc, _+_, _-_, _*_, _^_, _≤_, _<_}
+use mathlib.Core.Path.{_≡_, refl, sym, ap, _∙_}
+use native.Mathlib.Omega.{arith}
+use Rattle.image.proofs.Storing.{wrote-job}
 use borrow.Author.Needs.{needs}
 use Rattle.image.proofs.stores.put_job.Statement.{statement}
 use Rattle.image.proofs.stores.put_job.Tie as tie
@@ -24,7 +28,11 @@ same-length c = search needs
 
 -- src/stores.rt:72:1
 returns : tie.Need-returns
-returns c = ?
+returns c = 
+    let a = c .before .before .before .before .before .before .before .before .before .before .args in
+    let h = c .before .before .before .before .before .before .put-bytes in
+    let t = c .before .before .put in
+    (omega (arith, h .ensures .0, t .ensures .0), wrote-job (a .o) (a .out .now) _ _ (a .at) (h .result) (h .ensures .0) (h .ensures .1) (t .ensures .1))
 
 pub put-job-spec : {M : Type 1} → statement M
 put-job-spec =
