@@ -17,9 +17,11 @@ use Rattle.machine.specs.declared.Check.the-variants.{Passed, Refused}
 use Rattle.machine.specs.Refusals.{_else_, refuse}
 use Rattle.machine.proofs.Checks.{else-passed, not-refused, or-left, or-right}
 use Rattle.jobs.specs.declared.Held.{Held}
+use Rattle.jobs.specs.declared.Held.the-variants.{Nothing, Holds}
 use Rattle.image.specs.declared.Scanned.{Scanned}
 use Rattle.image.specs.declared.Scanned.the-variants.{Sound, Broken}
 use Rattle.image.specs.declared.Read.the-variants as read
+use Rattle.image.specs.Format.{value, jobOf}
 use Rattle.image.specs.Reading.{scanned, stateIn, widthIn, wordsIn, jobsAt, heldIn, numbers}
 use Rattle.image.specs.Calls.{refuseBytes, readCheck, readOf, wordsRead, responsesRead}
 use Rattle.image.proofs.Bytes.{length-numbers}
@@ -75,16 +77,33 @@ fits b w r k e h =
       responses = ltb-false r (wordsIn b) (or-right (ltb w (wordsIn b)) (ltb r (wordsIn b)) t);
     }
 
+-- the same, of the count that was read
+pub record Room (b : List ℕ) (n w r : ℕ) : Type 0 where
+  pub few : n ≤ 1024
+  pub room : 13 + 9 * n + 4 + 22 * value (take 4 (drop (13 + 9 * n) b)) ≤ length b
+  pub words : n ≤ w
+  pub responses : n ≤ r
+
+pub room : (b : List ℕ) (n w r : ℕ) (k : Check) → k ≡ readCheck b w r → k ≡ Passed → n ≡ wordsIn b → Room b n w r
+room b n w r k e h g =
+    let f = fits b w r k e h in
+    record { few = rw g (f .long .few); room = rw g (f .long .room); words = rw g (f .words); responses = rw g (f .responses) }
+
 pub read-refused : (b ws rs : List ℕ) (k : Check) (why : Refusal) → k ≡ readCheck b (length ws) (length rs) → k ≡ Refused why
-    → (read.Refused why ≡ readOf b (length ws) (length rs)) × (ws ≡ wordsRead b ws rs) × (rs ≡ responsesRead b ws rs)
+    → (read.Refused why ≡ readOf b (length ws) (length rs)) × ((ws ≡ wordsRead b ws rs) × (rs ≡ responsesRead b ws rs))
 unfolding readOf wordsRead responsesRead
-read-refused b ws rs k why e h = (rw (← e, h), rw (← e, h), rw (← e, h))
+read-refused b ws rs k why e h = (rw (← e, h), (rw (← e, h), rw (← e, h)))
 
 pub read-done : (b ws rs ws′ rs′ : List ℕ) (k : Check) (w n : ℕ) (o : Held) → k ≡ readCheck b (length ws) (length rs) → k ≡ Passed
-    → w ≡ widthIn b → n ≡ wordsIn b → o ≡ heldIn b
+    → w ≡ widthIn b → n ≡ wordsIn b
+    → o ≡ pick (eqb (value (take 4 (drop (13 + 9 * n) b))) 0) Nothing (Holds (jobOf (take 22 (drop (13 + 9 * n + 4) b))))
     → ws′ ≡ sets ws 0 (numbers 8 n (drop 9 b)) → rs′ ≡ sets rs 0 (numbers 1 n (drop (13 + 8 * n) b))
-    → (read.Machine w n o ≡ readOf b (length ws) (length rs)) × (ws′ ≡ wordsRead b ws rs) × (rs′ ≡ responsesRead b ws rs)
+    → (read.Machine w n o ≡ readOf b (length ws) (length rs)) × ((ws′ ≡ wordsRead b ws rs) × (rs′ ≡ responsesRead b ws rs))
 unfolding readOf wordsRead responsesRead stateIn
 read-done b ws rs ws′ rs′ k w n o e h f g i p q =
     let l : n ≡ length (numbers 8 (wordsIn b) (drop 9 b)) = g ∙ sym (length-numbers 8 (wordsIn b) (drop 9 b)) in
-    (rw (← e, h) (rw (f, i) (ap (λ (x : ℕ). read.Machine (widthIn b) x (heldIn b)) l)), rw (← e, h) (rw g at p), rw (← e, h) (rw g at q))
+    let j : o ≡ heldIn b = rw g at i in
+    let a : read.Machine w n o ≡ read.Machine (widthIn b) (length (numbers 8 (wordsIn b) (drop 9 b))) (heldIn b) = cc in
+    let y : ws′ ≡ sets ws 0 (numbers 8 (wordsIn b) (drop 9 b)) = rw g at p in
+    let z : rs′ ≡ sets rs 0 (numbers 1 (wordsIn b) (drop (13 + 8 * wordsIn b) b)) = rw g at q in
+    (rw (← e, h) a, (rw (← e, h) y, rw (← e, h) z))

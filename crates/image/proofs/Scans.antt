@@ -191,3 +191,50 @@ pub job-end : (w at : ℕ) (b : List ℕ) → holds (jobField w) (drop (at + 4) 
 job-end w at b h =
     let e : at + 4 + 22 ≡ at + 26 = omega arith in
     field-right (jobField w) [] b (at + 4) h ∙ ap (λ (q : ℕ). scan [] q (drop q b)) e
+
+-- the first three fields
+
+pub head-count : (b : List ℕ) → holds (countIs 1) b ≡ false → Broken 0 ≡ scanned b
+unfolding scanned fieldsOf
+head-count b h = sym (field-wrong (countIs 1) _ b 0 h)
+
+pub head-width : (b : List ℕ) → holds (countIs 1) b ≡ true → holds widthByte (drop 4 b) ≡ false → Broken 4 ≡ scanned b
+unfolding scanned fieldsOf
+head-width b h g = sym (field-right (countIs 1) _ b 0 h ∙ field-wrong widthByte _ b 4 g)
+
+pub head-words : (b : List ℕ) → holds (countIs 1) b ≡ true → holds widthByte (drop 4 b) ≡ true → holds wordCount (drop 5 b) ≡ false → Broken 5 ≡ scanned b
+unfolding scanned fieldsOf
+head-words b h g f = sym (field-right (countIs 1) _ b 0 h ∙ field-right widthByte _ b 4 g ∙ field-wrong wordCount _ b 5 f)
+
+pub record Head (b : List ℕ) : Type 0 where
+  pub fits : 9 ≤ length b
+  pub few : wordsIn b ≤ 1024
+  pub past : scanned b ≡ scan (replicate (wordsIn b) (wordField (widthIn b)) ++ afterWords (widthIn b) (wordsIn b) b) 9 (drop 9 b)
+
+pub head : (b : List ℕ) → holds (countIs 1) b ≡ true → holds widthByte (drop 4 b) ≡ true → holds wordCount (drop 5 b) ≡ true → Head b
+unfolding scanned fieldsOf
+head b h g f =
+    let l : 4 ≤ length b = held (countIs 1) b 0 (omega arith) h .fits in
+    let m : 5 ≤ length b = held widthByte b 4 l g .fits in
+    let k = held wordCount b 5 m f in
+    record {
+      fits = k .fits;
+      few = leb-true (wordsIn b) 1024 (and-right (leb 1 (wordsIn b)) (leb (wordsIn b) 1024) (k .right));
+      past = field-right (countIs 1) _ b 0 h ∙ field-right widthByte _ b 4 g ∙ field-right wordCount _ b 5 f;
+    }
+
+-- the words, by what looking at them found
+pub words-broken : (b : List ℕ) (n at : ℕ) (r : Scanned) → Head b → n ≡ wordsIn b
+    → ((fs : List Field) → scan (replicate n (wordField (widthIn b)) ++ fs) 9 (drop 9 b) ≡ onward r (scan fs (9 + 8 * n) (drop (9 + 8 * n) b)))
+    → r ≡ Broken at → Broken at ≡ scanned b
+words-broken b n at r t e h g =
+    let f = rw e at (h (afterWords (widthIn b) n b)) in
+    sym (t .past ∙ f ∙ rw g)
+
+pub words-sound : (b : List ℕ) (n : ℕ) (r q : Scanned) → Head b → n ≡ wordsIn b
+    → ((fs : List Field) → scan (replicate n (wordField (widthIn b)) ++ fs) 9 (drop 9 b) ≡ onward r (scan fs (9 + 8 * n) (drop (9 + 8 * n) b)))
+    → r ≡ Sound → q ≡ scan (afterWords (widthIn b) n b) (9 + 8 * n) (drop (9 + 8 * n) b) → q ≡ scanned b
+words-sound b n r q t e h g i =
+    let f = rw e at (h (afterWords (widthIn b) n b)) in
+    let j = rw e at i in
+    sym (t .past ∙ f ∙ rw g (sym j))

@@ -75,11 +75,11 @@ write-passed s room l k t e h f g i j =
 
 -- ---- the call
 
-pub write-room : (s : State) (room : ℕ) → writeCheck s room ≡ Passed
+pub write-room : (s : State) (room : ℕ) (k : Check) → k ≡ writeCheck s room → k ≡ Passed
     → 13 + 8 * length (s .machine .words) + length (s .machine .responses) + (4 + 22 * length (heldJobs (s .held))) ≤ room
 unfolding writeCheck
-write-room s room h =
-    let a = else-passed (machineCheck (s .machine)) _ h in
+write-room s room k e h =
+    let a = else-passed (machineCheck (s .machine)) _ (sym e ∙ h) in
     let b = else-passed (refuse Unfit (badJob (s .machine .width) (s .held))) _ (a .1) in
     omega (arith, length-image s, ltb-false room (length (imageOf s)) (not-refused NoRoom _ (b .1)))
 

@@ -44,7 +44,7 @@ scan-end-requires c κs =
 -- src/fields.rt:176:9
 returns-2 : tie.Need-returns-2
 returns-2 c = 
-    let a = c .before .before .before .before .before .args in
+    let a = c .before .before .before .before .before .before .args in
     c .scan-end .ensures
     ∙ sym (job-none (a .width) (a .at) (a .image .now) (sym (c .before .before .before .before .job-count-right .ensures) ∙ not-false _ (c .before .before .before .if1 .left)) (sym (c .before .before .number-at .ensures) ∙ c .before .if2 .taken))
 

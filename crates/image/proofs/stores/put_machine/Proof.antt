@@ -1,3 +1,8 @@
+use Prim.Native.Nat.{ℕ, zero, suc, _+_, _-_, _*_, _^_, _≤_, _<_}
+use mathlib.Core.Path.{_≡_, refl, sym, ap, _∙_}
+use native.Mathlib.Omega.{arith}
+use Rattle.machine.specs.Machine.{machine}
+use Rattle.image.proofs.Storing.{wrote-machine}
 use borrow.Author.Needs.{needs}
 use Rattle.image.proofs.stores.put_machine.Statement.{statement}
 use Rattle.image.proofs.stores.put_machine.Tie as tie
@@ -37,7 +42,15 @@ same-length c = search needs
 
 -- src/stores.rt:57:1
 returns : tie.Need-returns
-returns c = ?
+returns c = 
+    let a = c .before .before .before .before .before .before .before .before .before .before .before .before .before .before .before .before .before .before .before .before .before .before .before .before .before .before .before .args in
+    wrote-machine (machine (a .width) (a .words .now) (a .responses .now)) (a .out .now) _ _ _ _ _ _ _ _ _ _ _ _
+    (c .before .before .before .before .before .before .before .before .before .before .before .before .before .before .before .before .before .before .before .before .before .before .put .ensures)
+    (c .before .before .before .before .before .before .before .before .before .before .before .before .before .before .before .before .before .before .put2 .ensures)
+    (c .before .before .before .before .before .before .before .before .before .before .before .before .before .before .put3 .ensures)
+    (c .before .before .before .before .before .before .before .before .before .before .put-words .ensures)
+    (c .before .before .before .before .before .before .put4 .ensures)
+    (c .before .before .put-bytes .ensures)
 
 pub put-machine-spec : {M : Type 1} → statement M
 put-machine-spec =
