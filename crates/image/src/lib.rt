@@ -1,5 +1,10 @@
 // The image: a machine and its held job as bytes, written and read back.
 // Document 01: 'The image', and numbers 8, 9 and 10.
+mod fields;
+pub mod reading;
+mod stores;
+pub mod writing;
+
 use jobs::Held;
 use machine::Refusal;
 

@@ -1,0 +1,109 @@
+-- Reading as a whole: its checks in order, and what sound bytes leave.
+-- Assumes nothing.
+use Prim.Native.Nat.{ℕ, zero, suc, _+_, _*_, _-_, _≤_, _<_}
+use mathlib.Core.Path.{_≡_, refl, sym, ap, ap₂, _∙_}
+use mathlib.Core.Bool.{Bool, true, false, _||_}
+use mathlib.Core.List.{List, [], _∷_, _++_}
+use native.Mathlib.Omega.{arith}
+use lib.Dec.{ltb, eqb}
+use lib.ListN.{length, take, drop, getD}
+use lib.Seq.{sets}
+use borrow.Author.Tests.{ltb-false, eq-eqb, ne-eqb}
+use Rattle.laws.specs.Bits.{pick}
+use Rattle.machine.specs.declared.Refusal.{Refusal}
+use Rattle.machine.specs.declared.Refusal.the-variants.{Malformed, NoRoom}
+use Rattle.machine.specs.declared.Check.{Check}
+use Rattle.machine.specs.declared.Check.the-variants.{Passed, Refused}
+use Rattle.machine.specs.Refusals.{_else_, refuse}
+use Rattle.machine.proofs.Checks.{else-passed, not-refused, or-left, or-right}
+use Rattle.jobs.specs.declared.Held.{Held}
+use Rattle.jobs.specs.declared.Held.the-variants.{Nothing, Holds}
+use Rattle.image.specs.declared.Scanned.{Scanned}
+use Rattle.image.specs.declared.Scanned.the-variants.{Sound, Broken}
+use Rattle.image.specs.declared.Read.the-variants as read
+use Rattle.image.specs.Format.{value, jobOf}
+use Rattle.image.specs.Reading.{scanned, stateIn, widthIn, wordsIn, jobsAt, heldIn, numbers}
+use Rattle.image.specs.Calls.{refuseBytes, readCheck, readOf, wordsRead, responsesRead}
+use Rattle.image.proofs.Bytes.{length-numbers}
+use Rattle.image.proofs.Scans.{Long, long}
+
+-- what is picked by a count of 0, and by another
+pub zero-picks : {A : Type 0} (v : ℕ) (x y : A) → v ≡ 0 → x ≡ pick (eqb v 0) x y
+zero-picks v x y e = rw (eq-eqb v 0 e)
+
+pub other-picks : {A : Type 0} (v : ℕ) (x y : A) → (v ≡ 0 → ⊥) → y ≡ pick (eqb v 0) x y
+other-picks v x y e = rw (ne-eqb v 0 e)
+
+-- ---- the checks
+
+pub read-broken : (b : List ℕ) (w r at : ℕ) (k : Scanned) → k ≡ scanned b → k ≡ Broken at → Refused (Malformed at) ≡ readCheck b w r
+unfolding readCheck
+read-broken b w r at k e h = rw (← e, h)
+
+pub read-short : (b : List ℕ) (w r n : ℕ) (k : Scanned) → k ≡ scanned b → k ≡ Sound → n ≡ wordsIn b → (ltb w n || ltb r n) ≡ true → Refused NoRoom ≡ readCheck b w r
+unfolding readCheck
+read-short b w r n k e h f g =
+    let z : (ltb w (wordsIn b) || ltb r (wordsIn b)) ≡ true = rw f at g in
+    rw (← e, h, z)
+
+pub read-passed : (b : List ℕ) (w r n : ℕ) (k : Scanned) → k ≡ scanned b → k ≡ Sound → n ≡ wordsIn b → (ltb w n || ltb r n) ≡ false → Passed ≡ readCheck b w r
+unfolding readCheck
+read-passed b w r n k e h f g =
+    let z : (ltb w (wordsIn b) || ltb r (wordsIn b)) ≡ false = rw f at g in
+    rw (← e, h, z)
+
+-- ---- the call
+
+pub record Fits (b : List ℕ) (w r : ℕ) : Type 0 where
+  pub sound : scanned b ≡ Sound
+  pub long : Long b
+  pub words : wordsIn b ≤ w
+  pub responses : wordsIn b ≤ r
+
+unbroken : (k : Scanned) → refuseBytes k ≡ Passed → k ≡ Sound
+unbroken Sound h = refl
+unbroken (Broken at) h = cc
+
+pub fits : (b : List ℕ) (w r : ℕ) (k : Check) → k ≡ readCheck b w r → k ≡ Passed → Fits b w r
+unfolding readCheck
+fits b w r k e h =
+    let a = else-passed (refuseBytes (scanned b)) _ (sym e ∙ h) in
+    let s = unbroken (scanned b) (a .0) in
+    let t = not-refused NoRoom (ltb w (wordsIn b) || ltb r (wordsIn b)) (a .1) in
+    record {
+      sound = s;
+      long = long b s;
+      words = ltb-false w (wordsIn b) (or-left (ltb w (wordsIn b)) (ltb r (wordsIn b)) t);
+      responses = ltb-false r (wordsIn b) (or-right (ltb w (wordsIn b)) (ltb r (wordsIn b)) t);
+    }
+
+-- the same, of the count that was read
+pub record Room (b : List ℕ) (n w r : ℕ) : Type 0 where
+  pub few : n ≤ 1024
+  pub room : 13 + 9 * n + 4 + 22 * value (take 4 (drop (13 + 9 * n) b)) ≤ length b
+  pub words : n ≤ w
+  pub responses : n ≤ r
+
+pub room : (b : List ℕ) (n w r : ℕ) (k : Check) → k ≡ readCheck b w r → k ≡ Passed → n ≡ wordsIn b → Room b n w r
+room b n w r k e h g =
+    let f = fits b w r k e h in
+    record { few = rw g (f .long .few); room = rw g (f .long .room); words = rw g (f .words); responses = rw g (f .responses) }
+
+pub read-refused : (b ws rs : List ℕ) (k : Check) (why : Refusal) → k ≡ readCheck b (length ws) (length rs) → k ≡ Refused why
+    → (read.Refused why ≡ readOf b (length ws) (length rs)) × ((ws ≡ wordsRead b ws rs) × (rs ≡ responsesRead b ws rs))
+unfolding readOf wordsRead responsesRead
+read-refused b ws rs k why e h = (rw (← e, h), (rw (← e, h), rw (← e, h)))
+
+pub read-done : (b ws rs ws′ rs′ : List ℕ) (k : Check) (w n : ℕ) (o : Held) → k ≡ readCheck b (length ws) (length rs) → k ≡ Passed
+    → w ≡ widthIn b → n ≡ wordsIn b
+    → o ≡ pick (eqb (value (take 4 (drop (13 + 9 * n) b))) 0) Nothing (Holds (jobOf (take 22 (drop (13 + 9 * n + 4) b))))
+    → ws′ ≡ sets ws 0 (numbers 8 n (drop 9 b)) → rs′ ≡ sets rs 0 (numbers 1 n (drop (13 + 8 * n) b))
+    → (read.Machine w n o ≡ readOf b (length ws) (length rs)) × ((ws′ ≡ wordsRead b ws rs) × (rs′ ≡ responsesRead b ws rs))
+unfolding readOf wordsRead responsesRead stateIn
+read-done b ws rs ws′ rs′ k w n o e h f g i p q =
+    let l : n ≡ length (numbers 8 (wordsIn b) (drop 9 b)) = g ∙ sym (length-numbers 8 (wordsIn b) (drop 9 b)) in
+    let j : o ≡ heldIn b = rw g at i in
+    let a : read.Machine w n o ≡ read.Machine (widthIn b) (length (numbers 8 (wordsIn b) (drop 9 b))) (heldIn b) = cc in
+    let y : ws′ ≡ sets ws 0 (numbers 8 (wordsIn b) (drop 9 b)) = rw g at p in
+    let z : rs′ ≡ sets rs 0 (numbers 1 (wordsIn b) (drop (13 + 8 * wordsIn b) b)) = rw g at q in
+    (rw (← e, h) a, (rw (← e, h) y, rw (← e, h) z))
