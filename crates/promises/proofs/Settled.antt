@@ -38,6 +38,12 @@ use Rattle.jobs.proofs.step.Reads as step-reads
 use Rattle.jobs.proofs.totals.total as total
 use Rattle.jobs.proofs.totals.total.Kinds as total-kinds
 use Rattle.jobs.proofs.totals.total.Reads as total-reads
+use Rattle.image.proofs.writing.write as write
+use Rattle.image.proofs.writing.write.Kinds as write-kinds
+use Rattle.image.proofs.writing.write.Reads as write-reads
+use Rattle.image.proofs.reading.read as read
+use Rattle.image.proofs.reading.read.Kinds as read-kinds
+use Rattle.image.proofs.reading.read.Reads as read-reads
 
 pub plain-pulse-settled : (κs : Lfts 2) (a : ArgsD plain-pulse.signature κs) (r r′ : ResD plain-pulse.signature κs) (s s′ : AtExit (endedOf 2 plain-pulse-kinds.ps plain-pulse-kinds.r) κs)
     → plain-pulse-reads.Post κs a r s → plain-pulse-reads.Post κs a r′ s′ → (r ≡ r′) × (now (s .0) ≡ now (s′ .0)) × (now (s .1 .0) ≡ now (s′ .1 .0))
@@ -78,3 +84,11 @@ step-settled κs a r r′ s s′ h g = (h .0 ∙ sym (g .0), h .1 .0 ∙ sym (g 
 pub total-settled : (κs : Lfts 2) (a : ArgsD total.signature κs) (r r′ : ResD total.signature κs) (s s′ : AtExit (endedOf 2 total-kinds.ps total-kinds.r) κs)
     → total-reads.Post κs a r s → total-reads.Post κs a r′ s′ → r ≡ r′
 total-settled κs a r r′ s s′ h g = h ∙ sym g
+
+pub write-settled : (κs : Lfts 3) (a : ArgsD write.signature κs) (r r′ : ResD write.signature κs) (s s′ : AtExit (endedOf 3 write-kinds.ps write-kinds.r) κs)
+    → write-reads.Post κs a r s → write-reads.Post κs a r′ s′ → (r ≡ r′) × (now (s .1 .1 .1 .1 .0) ≡ now (s′ .1 .1 .1 .1 .0))
+write-settled κs a r r′ s s′ h g = (h .0 ∙ sym (g .0), h .1 ∙ sym (g .1))
+
+pub read-settled : (κs : Lfts 3) (a : ArgsD read.signature κs) (r r′ : ResD read.signature κs) (s s′ : AtExit (endedOf 3 read-kinds.ps read-kinds.r) κs)
+    → read-reads.Post κs a r s → read-reads.Post κs a r′ s′ → (r ≡ r′) × (now (s .1 .0) ≡ now (s′ .1 .0)) × (now (s .1 .1 .0) ≡ now (s′ .1 .1 .0))
+read-settled κs a r r′ s s′ h g = (h .0 ∙ sym (g .0), h .1 .0 ∙ sym (g .1 .0), h .1 .1 ∙ sym (g .1 .1))

@@ -19,7 +19,7 @@ shared-slice-read-result c = search needs
 
 -- src/fields.rt:37:1
 returns : tie.Need-returns
-returns c = 
+returns c =
     let a = c .before .args in
     sym (getD-take 22 (drop (a .at) (a .image .now)) (a .k) 0 (c .before .pre .1) ∙ getD-drop (a .at) (a .image .now) (a .k) 0)
 

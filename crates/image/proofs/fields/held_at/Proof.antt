@@ -20,7 +20,7 @@ number-at-requires c κs = search needs
 
 -- src/fields.rt:84:9
 returns : tie.Need-returns
-returns c = 
+returns c =
     let a = c .before .before .before .args in
     zero-picks (value (take 4 (drop (a .at) (a .image .now)))) Nothing (Holds (jobOf (take 22 (drop (a .at + 4) (a .image .now)))))
     (sym (c .before .number-at .ensures) ∙ c .if1 .taken)
@@ -35,7 +35,7 @@ job-at-requires c κs = search needs
 
 -- src/fields.rt:79:1
 returns-2 : tie.Need-returns-2
-returns-2 c = 
+returns-2 c =
     let a = c .before .before .before .before .args in
     ap Holds (c .job-at .ensures)
     ∙ other-picks (value (take 4 (drop (a .at) (a .image .now)))) Nothing (Holds (jobOf (take 22 (drop (a .at + 4) (a .image .now)))))

@@ -66,7 +66,7 @@ number-at-requires c κs = search needs
 
 -- src/fields.rt:55:1
 returns : tie.Need-returns
-returns c = 
+returns c =
     let a = c .before .before .before .before .before .before .before .before .before .before .before .before .before .args in
     made (take 22 (drop (a .at) (a .image .now))) _ _ _ _ _ _ _ _ _ _ _ _
     (c .before .before .before .before .before .before .before .before .byte-at .ensures) (c .before .before .before .before .before .before .before .byte-at2 .ensures) (c .before .before .before .before .before .before .byte-at3 .ensures) (c .before .before .before .before .before .byte-at4 .ensures)

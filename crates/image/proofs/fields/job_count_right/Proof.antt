@@ -25,7 +25,7 @@ number-at-requires c κs = search needs
 
 -- src/fields.rt:134:1
 returns-2 : tie.Need-returns-2
-returns-2 c = 
+returns-2 c =
     let a = c .before .before .before .args in
     holds-read jobCount (a .image .now) (a .at) _ (c .before .if1 .left) (ap (λ (v : ℕ). leb v 1) (c .number-at .ensures))
 

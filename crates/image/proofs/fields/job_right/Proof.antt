@@ -31,7 +31,7 @@ bad-held-requires c κs = search needs
 
 -- src/fields.rt:145:1
 returns-2 : tie.Need-returns-2
-returns-2 c = 
+returns-2 c =
     let a = c .before .before .before .before .args in
     holds-read (jobField (a .width)) (a .image .now) (a .at) _ (c .before .before .if1 .left)
     (ap not (c .bad-held .ensures ∙ ap (badHeld (a .width)) (c .before .job-at .ensures)))

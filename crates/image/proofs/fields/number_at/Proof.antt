@@ -43,7 +43,7 @@ cast-r c = let l = c .before .before .loop in let a = c .before .before .before 
 
 -- src/fields.rt:32:13
 add-r-2 : tie.Need-add-r-2 Inv-loop μ-loop
-add-r-2 c = 
+add-r-2 c =
     let l = c .before .before .loop in
     let a = c .before .before .before .args in
     omega (arith, c .shared-slice-known .given (a .at + (l .i - 1)), pow-room (a .k) (l .i) (omega arith) (omega arith))
@@ -54,16 +54,17 @@ loop-less c = omega arith
 
 -- src/fields.rt:30:5
 loop-again : tie.Need-loop-again Inv-loop μ-loop
-loop-again c = 
+loop-again c =
     let l = c .before .before .loop in
-    let a = c .before .before .before .args in
-    (omega arith,
-    sym (rw (← (l .inv .1)) at (value-down (a .image .now) (a .at) (a .k) (l .i) (omega arith) (omega arith) (omega arith))),
-    omega (arith, c .shared-slice-known .given (a .at + (l .i - 1)), pow-down (a .k) (l .i) (omega arith) (omega arith)))
+    let a = c .before .before .before .args in (
+      omega arith,
+      sym (rw (← (l .inv .1)) at (value-down (a .image .now) (a .at) (a .k) (l .i) (omega arith) (omega arith) (omega arith))),
+      omega (arith, c .shared-slice-known .given (a .at + (l .i - 1)), pow-down (a .k) (l .i) (omega arith) (omega arith)),
+    )
 
 -- src/fields.rt:24:1
 returns : tie.Need-returns Inv-loop μ-loop
-returns c = 
+returns c =
     let l = c .before .loop in
     let e : l .i ≡ 0 = omega arith in
     rw (e, sub-zero, add-zero) at (l .inv .1)

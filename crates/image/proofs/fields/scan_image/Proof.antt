@@ -35,7 +35,7 @@ returns-2 c = head-width (c .before .before .before .before .before .args .image
 
 -- src/fields.rt:223:9
 word-count-right-requires : tie.Need-word-count-right-requires
-word-count-right-requires c κs = 
+word-count-right-requires c κs =
     let b = c .before .before .before .before .before .args .image .now in
     held widthByte b 4 (held (countIs 1) b 0 (omega arith) (sym (c .before .before .before .count-is .ensures) ∙ not-false _ (c .before .before .if1 .left)) .fits) (sym (c .before .width-right .ensures) ∙ not-false _ (c .if2 .left)) .fits
 
@@ -45,11 +45,11 @@ returns-3 c = head-words (c .before .before .before .before .before .before .bef
 
 -- src/fields.rt:226:17
 shared-slice-read-width : tie.Need-shared-slice-read-width
-shared-slice-read-width c = 
+shared-slice-read-width c =
     let a = c .before .before .before .before .before .before .before .before .args in
     let h = (head (a .image .now) (sym (c .before .before .before .before .before .before .count-is .ensures) ∙ not-false _ (c .before .before .before .before .before .if1 .left))
-      (sym (c .before .before .before .before .width-right .ensures) ∙ not-false _ (c .before .before .before .if2 .left))
-      (sym (c .before .before .word-count-right .ensures) ∙ not-false _ (c .before .if3 .left))) in
+    (sym (c .before .before .before .before .width-right .ensures) ∙ not-false _ (c .before .before .before .if2 .left))
+    (sym (c .before .before .word-count-right .ensures) ∙ not-false _ (c .before .if3 .left))) in
     omega (arith, h .fits)
 
 -- src/fields.rt:226:17
@@ -58,20 +58,20 @@ cast-width c = omega (arith, c .shared-slice-known2 .given 4)
 
 -- src/fields.rt:227:13
 number-at-requires : tie.Need-number-at-requires
-number-at-requires c κs = 
+number-at-requires c κs =
     let a = c .before .before .before .before .before .before .before .before .args in
     let h = (head (a .image .now) (sym (c .before .before .before .before .before .before .count-is .ensures) ∙ not-false _ (c .before .before .before .before .before .if1 .left))
-      (sym (c .before .before .before .before .width-right .ensures) ∙ not-false _ (c .before .before .before .if2 .left))
-      (sym (c .before .before .word-count-right .ensures) ∙ not-false _ (c .before .if3 .left))) in
+    (sym (c .before .before .before .before .width-right .ensures) ∙ not-false _ (c .before .before .before .if2 .left))
+    (sym (c .before .before .word-count-right .ensures) ∙ not-false _ (c .before .if3 .left))) in
     (h .fits, omega arith)
 
 -- src/fields.rt:228:9
 scan-words-requires : tie.Need-scan-words-requires
-scan-words-requires c κs = 
+scan-words-requires c κs =
     let a = c .before .before .before .before .before .before .before .before .before .args in
     let h = (head (a .image .now) (sym (c .before .before .before .before .before .before .before .count-is .ensures) ∙ not-false _ (c .before .before .before .before .before .before .if1 .left))
-      (sym (c .before .before .before .before .before .width-right .ensures) ∙ not-false _ (c .before .before .before .before .if2 .left))
-      (sym (c .before .before .before .word-count-right .ensures) ∙ not-false _ (c .before .before .if3 .left))) in
+    (sym (c .before .before .before .before .before .width-right .ensures) ∙ not-false _ (c .before .before .before .before .if2 .left))
+    (sym (c .before .before .before .word-count-right .ensures) ∙ not-false _ (c .before .before .if3 .left))) in
     (h .fits, omega (arith, h .few, c .number-at .ensures))
 
 -- src/fields.rt:230:25
@@ -84,31 +84,31 @@ enum-told c = search needs
 
 -- src/fields.rt:231:27
 scan-responses-requires : tie.Need-scan-responses-requires
-scan-responses-requires c κs = 
+scan-responses-requires c κs =
     let a = c .before .before .before .before .before .before .before .before .before .before .before .before .args in
     let h = (head (a .image .now) (sym (c .before .before .before .before .before .before .before .before .before .before .count-is .ensures) ∙ not-false _ (c .before .before .before .before .before .before .before .before .before .if1 .left))
-      (sym (c .before .before .before .before .before .before .before .before .width-right .ensures) ∙ not-false _ (c .before .before .before .before .before .before .before .if2 .left))
-      (sym (c .before .before .before .before .before .before .word-count-right .ensures) ∙ not-false _ (c .before .before .before .before .before .if3 .left))) in
+    (sym (c .before .before .before .before .before .before .before .before .width-right .ensures) ∙ not-false _ (c .before .before .before .before .before .before .before .if2 .left))
+    (sym (c .before .before .before .before .before .before .word-count-right .ensures) ∙ not-false _ (c .before .before .before .before .before .if3 .left))) in
     let e : c .before .before .before .number-at .result ≤ 1024 = omega (arith, h .few, c .before .before .before .number-at .ensures) in
     (c .before .before .scan-words .ensures .1 (c .enum-told .given .1), e)
 
 -- src/fields.rt:214:1
 returns-4 : tie.Need-returns-4
-returns-4 c = 
+returns-4 c =
     let a = c .before .before .before .before .before .before .before .before .before .before .before .before .before .args in
     let h = (head (a .image .now) (sym (c .before .before .before .before .before .before .before .before .before .before .before .count-is .ensures) ∙ not-false _ (c .before .before .before .before .before .before .before .before .before .before .if1 .left))
-      (sym (c .before .before .before .before .before .before .before .before .before .width-right .ensures) ∙ not-false _ (c .before .before .before .before .before .before .before .before .if2 .left))
-      (sym (c .before .before .before .before .before .before .before .word-count-right .ensures) ∙ not-false _ (c .before .before .before .before .before .before .if3 .left))) in
+    (sym (c .before .before .before .before .before .before .before .before .before .width-right .ensures) ∙ not-false _ (c .before .before .before .before .before .before .before .before .if2 .left))
+    (sym (c .before .before .before .before .before .before .before .word-count-right .ensures) ∙ not-false _ (c .before .before .before .before .before .before .if3 .left))) in
     words-broken (a .image .now) (c .before .before .before .before .number-at .result) _ (c .before .before .before .scan-words .result) h (c .before .before .before .before .number-at .ensures)
     (c .before .before .before .scan-words .ensures .0) (c .before .words .given .1)
 
 -- src/fields.rt:214:1
 returns-5 : tie.Need-returns-5
-returns-5 c = 
+returns-5 c =
     let a = c .before .before .before .before .before .before .before .before .before .before .before .before .before .args in
     let h = (head (a .image .now) (sym (c .before .before .before .before .before .before .before .before .before .before .before .count-is .ensures) ∙ not-false _ (c .before .before .before .before .before .before .before .before .before .before .if1 .left))
-      (sym (c .before .before .before .before .before .before .before .before .before .width-right .ensures) ∙ not-false _ (c .before .before .before .before .before .before .before .before .if2 .left))
-      (sym (c .before .before .before .before .before .before .before .word-count-right .ensures) ∙ not-false _ (c .before .before .before .before .before .before .if3 .left))) in
+    (sym (c .before .before .before .before .before .before .before .before .before .width-right .ensures) ∙ not-false _ (c .before .before .before .before .before .before .before .before .if2 .left))
+    (sym (c .before .before .before .before .before .before .before .word-count-right .ensures) ∙ not-false _ (c .before .before .before .before .before .before .if3 .left))) in
     words-sound (a .image .now) (c .before .before .before .before .number-at .result) (c .before .before .before .scan-words .result) _ h (c .before .before .before .before .number-at .ensures)
     (c .before .before .before .scan-words .ensures .0) (c .before .enum-told .given .1) (c .scan-responses .ensures)
 

@@ -25,7 +25,7 @@ returns c = let a = c .before .before .before .args in sym (field-wrong jobCount
 
 -- src/fields.rt:175:8
 number-at-requires : tie.Need-number-at-requires
-number-at-requires c κs = 
+number-at-requires c κs =
     let a = c .before .before .before .args in
     let f : a .at + 4 ≤ length (a .image .now) = held jobCount (a .image .now) (a .at) (c .before .before .before .pre) (sym (c .before .job-count-right .ensures) ∙ not-false _ (c .if1 .left)) .fits in
     (f, omega arith)
@@ -36,14 +36,14 @@ add-scan-end c = search needs
 
 -- src/fields.rt:176:9
 scan-end-requires : tie.Need-scan-end-requires
-scan-end-requires c κs = 
+scan-end-requires c κs =
     let a = c .before .before .before .before .before .args in
     let f : a .at + 4 ≤ length (a .image .now) = held jobCount (a .image .now) (a .at) (c .before .before .before .before .before .pre) (sym (c .before .before .before .job-count-right .ensures) ∙ not-false _ (c .before .before .if1 .left)) .fits in
     f
 
 -- src/fields.rt:176:9
 returns-2 : tie.Need-returns-2
-returns-2 c = 
+returns-2 c =
     let a = c .before .before .before .before .before .before .args in
     c .scan-end .ensures
     ∙ sym (job-none (a .width) (a .at) (a .image .now) (sym (c .before .before .before .before .job-count-right .ensures) ∙ not-false _ (c .before .before .before .if1 .left)) (sym (c .before .before .number-at .ensures) ∙ c .before .if2 .taken))
@@ -54,7 +54,7 @@ add-job-right c = search needs
 
 -- src/fields.rt:178:9
 job-right-requires : tie.Need-job-right-requires
-job-right-requires c κs = 
+job-right-requires c κs =
     let a = c .before .before .before .before .before .args in
     let f : a .at + 4 ≤ length (a .image .now) = held jobCount (a .image .now) (a .at) (c .before .before .before .before .before .pre) (sym (c .before .before .before .job-count-right .ensures) ∙ not-false _ (c .before .before .if1 .left)) .fits in
     f
@@ -65,10 +65,10 @@ add-t9 c = search needs
 
 -- src/fields.rt:179:9
 returns-3 : tie.Need-returns-3
-returns-3 c = 
+returns-3 c =
     let a = c .before .before .before .before .before .before .before .args in
     sym (job-one (a .width) (a .at) (a .image .now) (c .before .before .before .before .before .before .before .pre) (sym (c .before .before .before .before .before .job-count-right .ensures) ∙ not-false _ (c .before .before .before .before .if1 .left))
-      (λ z. c .before .before .if2 .left (c .before .before .before .number-at .ensures ∙ z))
+    (λ z. c .before .before .if2 .left (c .before .before .before .number-at .ensures ∙ z))
     ∙ field-wrong (jobField (a .width)) _ (a .image .now) (a .at + 4) (sym (c .before .job-right .ensures) ∙ not-true _ (c .if3 .taken)))
 
 -- src/fields.rt:181:21
@@ -77,7 +77,7 @@ add-scan-end-2 c = search needs
 
 -- src/fields.rt:181:5
 scan-end-requires-2 : tie.Need-scan-end-requires-2
-scan-end-requires-2 c κs = 
+scan-end-requires-2 c κs =
     let a = c .before .before .before .before .before .before .before .args in
     let f : a .at + 4 ≤ length (a .image .now) = held jobCount (a .image .now) (a .at) (c .before .before .before .before .before .before .before .pre) (sym (c .before .before .before .before .before .job-count-right .ensures) ∙ not-false _ (c .before .before .before .before .if1 .left)) .fits in
     let g : a .at + 4 + 22 ≤ length (a .image .now) = held (jobField (a .width)) (a .image .now) (a .at + 4) f (sym (c .before .job-right .ensures) ∙ not-false _ (c .if3 .left)) .fits in
@@ -85,11 +85,11 @@ scan-end-requires-2 c κs =
 
 -- src/fields.rt:168:1
 returns-4 : tie.Need-returns-4
-returns-4 c = 
+returns-4 c =
     let a = c .before .before .before .before .before .before .before .before .args in
     c .scan-end2 .ensures
     ∙ sym (job-one (a .width) (a .at) (a .image .now) (c .before .before .before .before .before .before .before .before .pre) (sym (c .before .before .before .before .before .before .job-count-right .ensures) ∙ not-false _ (c .before .before .before .before .before .if1 .left))
-      (λ z. c .before .before .before .if2 .left (c .before .before .before .before .number-at .ensures ∙ z))
+    (λ z. c .before .before .before .if2 .left (c .before .before .before .before .number-at .ensures ∙ z))
     ∙ job-end (a .width) (a .at) (a .image .now) (sym (c .before .before .job-right .ensures) ∙ not-false _ (c .before .if3 .left)))
 
 pub scan-job-spec : {M : Type 1} → statement M

@@ -35,7 +35,7 @@ add-if2 c = search needs
 
 -- src/fields.rt:193:8
 sub-if2 : tie.Need-sub-if2
-sub-if2 c = 
+sub-if2 c =
     let a = c .before .before .before .args in
     let f : 9 + 8 * a .n + 4 ≤ length (a .image .now) = held (countIs (a .n)) (a .image .now) (9 + 8 * a .n) (c .before .before .before .pre .0) (sym (c .before .count-is .ensures) ∙ not-false _ (c .if1 .left)) .fits in
     omega arith
@@ -54,14 +54,14 @@ add-scan-job c = search needs
 
 -- src/fields.rt:196:5
 scan-job-requires : tie.Need-scan-job-requires
-scan-job-requires c κs = 
+scan-job-requires c κs =
     let a = c .before .before .before .before .args in
     let f : 9 + 8 * a .n + 4 ≤ length (a .image .now) = held (countIs (a .n)) (a .image .now) (9 + 8 * a .n) (c .before .before .before .before .pre .0) (sym (c .before .before .count-is .ensures) ∙ not-false _ (c .before .if1 .left)) .fits in
     omega arith
 
 -- src/fields.rt:185:1
 returns-3 : tie.Need-returns-3
-returns-3 c = 
+returns-3 c =
     let a = c .before .before .before .before .before .args in
     let f : 9 + 8 * a .n + 4 ≤ length (a .image .now) = held (countIs (a .n)) (a .image .now) (9 + 8 * a .n) (c .before .before .before .before .before .pre .0) (sym (c .before .before .before .count-is .ensures) ∙ not-false _ (c .before .before .if1 .left)) .fits in
     c .scan-job .ensures ∙ sym (after-right (a .width) (a .n) (a .image .now) (sym (c .before .before .before .count-is .ensures) ∙ not-false _ (c .before .before .if1 .left)) (omega arith))

@@ -15,7 +15,7 @@ use Rattle.image.proofs.fields.scan_words.Lts as lts
 use Rattle.image.proofs.fields.word_right.Reads as word-right-reads
 
 abbrev Inv-loop : tie.InvT-loop
-Inv-loop image width n i₀ i = 
+Inv-loop image width n i₀ i =
     (i ≤ n) × (9 + 8 * i ≤ length image)
     × ((fs : List Field) → scan (replicate n (wordField width) ++ fs) 9 (drop 9 image) ≡ scan (replicate (n - i) (wordField width) ++ fs) (9 + 8 * i) (drop (9 + 8 * i) image))
 
@@ -40,12 +40,13 @@ word-right-requires c κs = omega arith
 
 -- src/fields.rt:207:13
 returns : tie.Need-returns Inv-loop μ-loop
-returns c = 
+returns c =
     let l = c .before .before .before .loop in
-    let a = c .before .before .before .before .before .args in
-    (λ fs. l .inv .2 fs ∙ rw (one-more (a .n) (l .i) (wordField (a .width)) fs (omega arith))
-      (field-wrong (wordField (a .width)) _ (a .image .now) (9 + 8 * l .i) (sym (c .before .word-right .ensures) ∙ not-true _ (c .if1 .taken))),
-    λ z. absurd (let q : _≡_ {A = ℕ} 0 1 = cc in omega arith))
+    let a = c .before .before .before .before .before .args in (
+      λ fs. l .inv .2 fs ∙ rw (one-more (a .n) (l .i) (wordField (a .width)) fs (omega arith))
+          (field-wrong (wordField (a .width)) _ (a .image .now) (9 + 8 * l .i) (sym (c .before .word-right .ensures) ∙ not-true _ (c .if1 .taken))),
+      λ z. absurd (let q : _≡_ {A = ℕ} 0 1 = cc in omega arith),
+    )
 
 -- src/fields.rt:209:9
 add-i : tie.Need-add-i Inv-loop μ-loop
@@ -57,17 +58,19 @@ loop-less c = omega arith
 
 -- src/fields.rt:204:5
 loop-again : tie.Need-loop-again Inv-loop μ-loop
-loop-again c = 
+loop-again c =
     let l = c .before .before .before .loop in
     let a = c .before .before .before .before .before .args in
     let h = sym (c .before .word-right .ensures) ∙ not-false _ (c .if1 .left) in
-    let f : 9 + 8 * l .i + 8 ≤ length (a .image .now) = held (wordField (a .width)) (a .image .now) (9 + 8 * l .i) (l .inv .1) h .fits in
-    (omega arith, omega arith,
-    λ fs. l .inv .2 fs ∙ rw (one-more (a .n) (l .i) (wordField (a .width)) fs (omega arith)) (word-step (a .width) (l .i) (a .image .now) _ h))
+    let f : 9 + 8 * l .i + 8 ≤ length (a .image .now) = held (wordField (a .width)) (a .image .now) (9 + 8 * l .i) (l .inv .1) h .fits in (
+      omega arith,
+      omega arith,
+      λ fs. l .inv .2 fs ∙ rw (one-more (a .n) (l .i) (wordField (a .width)) fs (omega arith)) (word-step (a .width) (l .i) (a .image .now) _ h),
+    )
 
 -- src/fields.rt:199:1
 returns-2 : tie.Need-returns-2 Inv-loop μ-loop
-returns-2 c = 
+returns-2 c =
     let l = c .before .loop in
     let a = c .before .before .before .args in
     let e : l .i ≡ a .n = omega arith in

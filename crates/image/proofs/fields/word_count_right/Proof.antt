@@ -26,7 +26,7 @@ number-at-requires c κs = search needs
 
 -- src/fields.rt:112:1
 returns-2 : tie.Need-returns-2
-returns-2 c = 
+returns-2 c =
     holds-read wordCount (c .before .before .before .args .image .now) 5 _ (c .before .if1 .left) (ap (λ (v : ℕ). leb 1 v && leb v 1024) (c .number-at .ensures))
 
 pub word-count-right-spec : {M : Type 1} → statement M

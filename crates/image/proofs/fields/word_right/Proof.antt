@@ -31,7 +31,7 @@ too-wide-requires c κs = search needs
 
 -- src/fields.rt:123:1
 returns-2 : tie.Need-returns-2
-returns-2 c = 
+returns-2 c =
     let a = c .before .before .before .before .args in
     holds-read (wordField (a .width)) (a .image .now) (a .at) _ (c .before .before .if1 .left)
     (ap not (c .too-wide .ensures ∙ ap (tooWide (a .width)) (c .before .number-at .ensures)))

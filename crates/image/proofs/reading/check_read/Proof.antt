@@ -25,26 +25,26 @@ enum-told c = search needs
 
 -- src/reading.rt:23:21
 number-at-requires : tie.Need-number-at-requires
-number-at-requires c κs = 
+number-at-requires c κs =
     let b = c .before .before .before .before .args .image .now in
     let g = long b (sym (c .before .before .scan-image .ensures) ∙ c .enum-told .given .1) in
     omega (arith, g .room)
 
 -- src/reading.rt:25:17
 returns : tie.Need-returns
-returns c = 
+returns c =
     let a = c .before .before .before .before .before .before .args in
     read-short (a .image .now) (a .words) (a .responses) (c .before .number-at .result) _ (c .before .before .before .before .scan-image .ensures) (c .before .before .enum-told .given .1) (c .before .number-at .ensures) (c .if1 .taken)
 
 -- src/reading.rt:16:1
 returns-2 : tie.Need-returns-2
-returns-2 c = 
+returns-2 c =
     let a = c .before .before .before .before .before .args in
     read-broken (a .image .now) (a .words) (a .responses) _ _ (c .before .before .before .scan-image .ensures) (c .before .found .given .1)
 
 -- src/reading.rt:16:1
 returns-3 : tie.Need-returns-3
-returns-3 c = 
+returns-3 c =
     let a = c .before .before .before .before .before .before .args in
     read-passed (a .image .now) (a .words) (a .responses) (c .before .number-at .result) _ (c .before .before .before .before .scan-image .ensures) (c .before .before .enum-told .given .1) (c .before .number-at .ensures) (c .if1 .left)
 

@@ -13,7 +13,7 @@ use Rattle.image.proofs.reading.fill_responses.Reads as reads
 use Rattle.image.proofs.reading.fill_responses.Lts as lts
 
 abbrev Inv-loop : tie.InvT-loop
-Inv-loop image at responses₀ n i₀ responses i = 
+Inv-loop image at responses₀ n i₀ responses i =
     (i ≤ n) × (length responses ≡ length responses₀)
     × (sets responses i (numbers 1 (n - i) (drop (at + i) image)) ≡ sets responses₀ 0 (numbers 1 n (drop at image)))
 
@@ -46,11 +46,13 @@ loop-less c = omega arith
 
 -- src/reading.rt:48:5
 loop-again : tie.Need-loop-again Inv-loop μ-loop
-loop-again c = 
+loop-again c =
     let l = c .before .before .loop in
-    let a = c .before .before .before .args in
-    (omega arith, simp length-set (omega arith),
-    sym (fill-bytes-turn (l .responses) (a .image .now) (a .at) (l .i) (a .n) (omega arith) (omega arith)) ∙ l .inv .2)
+    let a = c .before .before .before .args in (
+      omega arith,
+      simp length-set (omega arith),
+      sym (fill-bytes-turn (l .responses) (a .image .now) (a .at) (l .i) (a .n) (omega arith) (omega arith)) ∙ l .inv .2,
+    )
 
 -- src/reading.rt:43:1
 same-length : tie.Need-same-length Inv-loop μ-loop
@@ -58,7 +60,7 @@ same-length c = search needs
 
 -- src/reading.rt:43:1
 returns : tie.Need-returns Inv-loop μ-loop
-returns c = 
+returns c =
     let l = c .before .loop in
     let a = c .before .before .args in
     let e : l .i ≡ a .n = omega arith in

@@ -14,7 +14,7 @@ use Rattle.image.proofs.reading.fill_words.Lts as lts
 use Rattle.image.proofs.fields.number_at.Reads as number-at-reads
 
 abbrev Inv-loop : tie.InvT-loop
-Inv-loop image words₀ n i₀ words i = 
+Inv-loop image words₀ n i₀ words i =
     (i ≤ n) × (length words ≡ length words₀)
     × (sets words i (numbers 8 (n - i) (drop (9 + 8 * i) image)) ≡ sets words₀ 0 (numbers 8 n (drop 9 image)))
 
@@ -55,11 +55,13 @@ loop-less c = omega arith
 
 -- src/reading.rt:37:5
 loop-again : tie.Need-loop-again Inv-loop μ-loop
-loop-again c = 
+loop-again c =
     let l = c .before .before .loop in
-    let a = c .before .before .before .before .before .args in
-    (omega arith, simp length-set (omega arith),
-    rw (c .number-at .ensures) (sym (fill-words-turn (l .words) (a .image .now) (l .i) (a .n) (omega arith)) ∙ l .inv .2))
+    let a = c .before .before .before .before .before .args in (
+      omega arith,
+      simp length-set (omega arith),
+      rw (c .number-at .ensures) (sym (fill-words-turn (l .words) (a .image .now) (l .i) (a .n) (omega arith)) ∙ l .inv .2),
+    )
 
 -- src/reading.rt:32:1
 same-length : tie.Need-same-length Inv-loop μ-loop
@@ -67,7 +69,7 @@ same-length c = search needs
 
 -- src/reading.rt:32:1
 returns : tie.Need-returns Inv-loop μ-loop
-returns c = 
+returns c =
     let l = c .before .loop in
     let a = c .before .before .before .before .args in
     let e : l .i ≡ a .n = omega arith in

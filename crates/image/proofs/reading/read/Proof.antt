@@ -29,7 +29,7 @@ enum-told c = search needs
 
 -- src/reading.rt:63:21
 number-at-requires : tie.Need-number-at-requires
-number-at-requires c κs = 
+number-at-requires c κs =
     let k = c .before .before in
     let a = k .before .before .before .before .args in
     let g = fits (a .image .now) (length (a .words .now)) (length (a .responses .now)) (k .check-read .result) (k .check-read .ensures) (c .enum-told .given .1) .long in
@@ -37,7 +37,7 @@ number-at-requires c κs =
 
 -- src/reading.rt:64:13
 fill-words-requires : tie.Need-fill-words-requires
-fill-words-requires c κs = 
+fill-words-requires c κs =
     let k = c .before .before .before .before in
     let a = k .before .before .before .before .args in
     let n = c .before .number-at in
@@ -46,7 +46,7 @@ fill-words-requires c κs =
 
 -- src/reading.rt:65:40
 mul-fill-responses : tie.Need-mul-fill-responses
-mul-fill-responses c = 
+mul-fill-responses c =
     let k = c .before .before .before .before .before .before .before in
     let a = k .before .before .before .before .args in
     let n = c .before .before .before .before .number-at in
@@ -55,7 +55,7 @@ mul-fill-responses c =
 
 -- src/reading.rt:65:35
 add-fill-responses : tie.Need-add-fill-responses
-add-fill-responses c = 
+add-fill-responses c =
     let k = c .before .before .before .before .before .before .before in
     let a = k .before .before .before .before .args in
     let n = c .before .before .before .before .number-at in
@@ -64,7 +64,7 @@ add-fill-responses c =
 
 -- src/reading.rt:65:13
 fill-responses-requires : tie.Need-fill-responses-requires
-fill-responses-requires c κs = 
+fill-responses-requires c κs =
     let k = c .before .before .before .before .before .before .before .before in
     let a = k .before .before .before .before .args in
     let n = c .before .before .before .before .before .number-at in
@@ -73,7 +73,7 @@ fill-responses-requires c κs =
 
 -- src/reading.rt:67:24
 shared-slice-read-t19 : tie.Need-shared-slice-read-t19
-shared-slice-read-t19 c = 
+shared-slice-read-t19 c =
     let k = c .before .before .before .before .before .before .before .before .before .before .before .before in
     let a = k .before .before .before .before .args in
     let n = c .before .before .before .before .before .before .before .before .before .number-at in
@@ -86,7 +86,7 @@ cast-t20 c = omega (arith, c .shared-slice-known2 .given 4)
 
 -- src/reading.rt:69:51
 mul-held-at : tie.Need-mul-held-at
-mul-held-at c = 
+mul-held-at c =
     let k = c .before .before .before .before .before .before .before .before .before .before .before .before in
     let a = k .before .before .before .before .args in
     let n = c .before .before .before .before .before .before .before .before .before .number-at in
@@ -95,7 +95,7 @@ mul-held-at c =
 
 -- src/reading.rt:69:46
 add-held-at : tie.Need-add-held-at
-add-held-at c = 
+add-held-at c =
     let k = c .before .before .before .before .before .before .before .before .before .before .before .before in
     let a = k .before .before .before .before .args in
     let n = c .before .before .before .before .before .before .before .before .before .number-at in
@@ -104,7 +104,7 @@ add-held-at c =
 
 -- src/reading.rt:69:23
 held-at-requires : tie.Need-held-at-requires
-held-at-requires c κs = 
+held-at-requires c κs =
     let k = c .before .before .before .before .before .before .before .before .before .before .before .before in
     let a = k .before .before .before .before .args in
     let n = c .before .before .before .before .before .before .before .before .before .number-at in
@@ -113,7 +113,7 @@ held-at-requires c κs =
 
 -- src/reading.rt:54:1
 returns : tie.Need-returns
-returns c = 
+returns c =
     let k = c .before .before .before in
     let a = k .before .before .before .before .args in
     read-refused (a .image .now) (a .words .now) (a .responses .now) (k .check-read .result) _ (k .check-read .ensures) (c .before .check .given .1)
@@ -128,7 +128,7 @@ same-length-2 c = search needs
 
 -- src/reading.rt:54:1
 returns-2 : tie.Need-returns-2
-returns-2 c = 
+returns-2 c =
     let k = c .before .before .before .before .before .before .before .before .before .before .before .before .before in
     let a = k .before .before .before .before .args in
     let n = c .before .before .before .before .before .before .before .before .before .before .number-at in

@@ -44,11 +44,13 @@ loop-less c = omega arith
 
 -- src/stores.rt:21:5
 loop-again : tie.Need-loop-again Inv-loop μ-loop
-loop-again c = 
+loop-again c =
     let l = c .before .loop in
-    let a = c .before .before .args in
-    (omega arith, simp length-set (omega arith),
-    sym (put-turn (l .out) (a .at) (a .k) (l .y) (l .j) (search needs)) ∙ l .inv .2)
+    let a = c .before .before .args in (
+      omega arith,
+      simp length-set (omega arith),
+      sym (put-turn (l .out) (a .at) (a .k) (l .y) (l .j) (search needs)) ∙ l .inv .2,
+    )
 
 -- src/stores.rt:26:5
 add-result : tie.Need-add-result Inv-loop μ-loop
@@ -60,7 +62,7 @@ same-length c = search needs
 
 -- src/stores.rt:15:1
 returns : tie.Need-returns Inv-loop μ-loop
-returns c = 
+returns c =
     let a = c .before .before .args in
     let l = c .before .loop in
     let e : l .j ≡ a .k = omega arith in

@@ -13,7 +13,7 @@ use Rattle.image.proofs.stores.put_bytes.Reads as reads
 use Rattle.image.proofs.stores.put_bytes.Lts as lts
 
 abbrev Inv-loop : tie.InvT-loop
-Inv-loop out₀ at list i₀ out i = 
+Inv-loop out₀ at list i₀ out i =
     (i ≤ length list) × (length out ≡ length out₀) × (sets out (at + i) (drop i list) ≡ sets out₀ at list)
     × ((k : ℕ) → k < i → getD list k 0 < 256)
 
@@ -46,12 +46,14 @@ loop-less c = omega arith
 
 -- src/stores.rt:49:5
 loop-again : tie.Need-loop-again Inv-loop μ-loop
-loop-again c = 
+loop-again c =
     let l = c .before .before .loop in
-    let a = c .before .before .before .args in
-    (omega arith, simp length-set (omega arith),
-    sym (list-turn (l .out) (a .at) (a .list .now) (l .i) (search needs)) ∙ l .inv .2,
-    one-below (a .list .now) (l .i) (l .inv .3) (omega (arith, c .shared-slice-known .given (l .i))))
+    let a = c .before .before .before .args in (
+      omega arith,
+      simp length-set (omega arith),
+      sym (list-turn (l .out) (a .at) (a .list .now) (l .i) (search needs)) ∙ l .inv .2,
+      one-below (a .list .now) (l .i) (l .inv .3) (omega (arith, c .shared-slice-known .given (l .i))),
+    )
 
 -- src/stores.rt:53:5
 add-result : tie.Need-add-result Inv-loop μ-loop
@@ -63,7 +65,7 @@ same-length c = search needs
 
 -- src/stores.rt:44:1
 returns : tie.Need-returns Inv-loop μ-loop
-returns c = 
+returns c =
     let a = c .before .before .args in
     let l = c .before .loop in
     let e : l .i ≡ length (a .list .now) = omega arith in

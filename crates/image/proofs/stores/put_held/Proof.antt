@@ -31,7 +31,7 @@ put-requires-2 c κs = search needs
 
 -- src/stores.rt:105:13
 put-job-requires : tie.Need-put-job-requires
-put-job-requires c κs = 
+put-job-requires c κs =
     let a = c .before .before .before .before .before .before .before .before .before .args in
     let e : length (heldJobs (a .held)) ≡ 1 = ap (λ (h : Held). length (heldJobs h)) (c .before .before .before .before .before .before .held .given .1) in
     let p = c .before .before .before .put2 in
@@ -43,7 +43,7 @@ same-length c = search needs
 
 -- src/stores.rt:97:1
 returns : tie.Need-returns
-returns c = 
+returns c =
     let a = c .before .before .before .before .before .before .before .args in
     stored-none (a .held) (a .out .now) _ (a .at) _ (c .before .before .before .before .enum-told .given .1) (c .before .before .put .ensures)
 
@@ -53,7 +53,7 @@ same-length-2 c = search needs
 
 -- src/stores.rt:97:1
 returns-2 : tie.Need-returns-2
-returns-2 c = 
+returns-2 c =
     let a = c .before .before .before .before .before .before .before .before .before .before .before .before .args in
     stored-one (a .held) _ (a .out .now) _ _ (a .at) _ _ (c .before .before .before .before .before .before .before .before .before .held .given .1) (c .before .before .before .before .before .before .put2 .ensures) (c .before .before .put-job .ensures)
 

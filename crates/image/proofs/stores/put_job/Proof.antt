@@ -28,7 +28,7 @@ same-length c = search needs
 
 -- src/stores.rt:72:1
 returns : tie.Need-returns
-returns c = 
+returns c =
     let a = c .before .before .before .before .before .before .before .before .before .before .args in
     let h = c .before .before .before .before .before .before .put-bytes in
     let t = c .before .before .put in

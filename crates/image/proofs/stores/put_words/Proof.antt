@@ -14,7 +14,7 @@ use Rattle.image.proofs.stores.put_words.Lts as lts
 use Rattle.image.proofs.stores.put.Reads as put-reads
 
 abbrev Inv-loop : tie.InvT-loop
-Inv-loop out₀ at words p₀ i₀ out p i = 
+Inv-loop out₀ at words p₀ i₀ out p i =
     (i ≤ length words) × (p ≡ at + 8 * i) × (length out ≡ length out₀) × (sets out p (items (bytes 8) (drop i words)) ≡ sets out₀ at (items (bytes 8) words))
 
 abbrev μ-loop : tie.MeasureT-loop
@@ -46,14 +46,17 @@ loop-less c = omega arith
 
 -- src/stores.rt:36:5
 loop-again : tie.Need-loop-again Inv-loop μ-loop
-loop-again c = 
+loop-again c =
     let l = c .before .before .before .before .before .before .loop in
     let a = c .before .before .before .before .before .before .before .before .before .args in
     let r = c .before .before .put in
     let e : length (r .last .0) ≡ length (l .out) = r .kept .0 in
-    let f : r .result ≡ l .p + 8 = r .ensures .0 in
-    (omega arith, omega arith, omega arith,
-    rw (r .ensures .1, f) (sym (words-turn (l .out) (l .p) (a .words .now) (l .i) (search needs)) ∙ l .inv .3))
+    let f : r .result ≡ l .p + 8 = r .ensures .0 in (
+      omega arith,
+      omega arith,
+      omega arith,
+      rw (r .ensures .1, f) (sym (words-turn (l .out) (l .p) (a .words .now) (l .i) (search needs)) ∙ l .inv .3),
+    )
 
 -- src/stores.rt:30:1
 same-length : tie.Need-same-length Inv-loop μ-loop
@@ -61,7 +64,7 @@ same-length c = search needs
 
 -- src/stores.rt:30:1
 returns : tie.Need-returns Inv-loop μ-loop
-returns c = 
+returns c =
     let l = c .before .loop in
     let a = c .before .before .before .before .args in
     let e : l .i ≡ length (a .words .now) = omega arith in

@@ -27,7 +27,7 @@ bad-job-requires c κs = search needs
 
 -- src/writing.rt:44:17
 returns : tie.Need-returns
-returns c = 
+returns c =
     let m = c .before .before .before .before in
     let a = m .before .before .before .args in
     write-unfit (state (a .width) (a .words .now) (a .responses .now) (a .held)) (a .room) _ _ (m .check-machine .ensures) (c .before .before .enum-told .given .1) (c .before .bad-job .ensures) (c .if1 .taken)
@@ -50,7 +50,7 @@ add-if2-2 c = search needs
 
 -- src/writing.rt:47:17
 returns-2 : tie.Need-returns-2
-returns-2 c = 
+returns-2 c =
     let m = c .before .before .before .before .before .before in
     let a = m .before .before .before .args in
     write-short (state (a .width) (a .words .now) (a .responses .now) (a .held)) (a .room) _ _ _ (m .check-machine .ensures) (c .before .before .before .before .enum-told .given .1)
@@ -58,14 +58,14 @@ returns-2 c =
 
 -- src/writing.rt:36:1
 returns-3 : tie.Need-returns-3
-returns-3 c = 
+returns-3 c =
     let m = c .before .before .before in
     let a = m .before .before .before .args in
     write-first (state (a .width) (a .words .now) (a .responses .now) (a .held)) (a .room) _ _ (m .check-machine .ensures) (c .before .check .given .1)
 
 -- src/writing.rt:36:1
 returns-4 : tie.Need-returns-4
-returns-4 c = 
+returns-4 c =
     let m = c .before .before .before .before .before .before in
     let a = m .before .before .before .args in
     write-passed (state (a .width) (a .words .now) (a .responses .now) (a .held)) (a .room) _ _ _ (m .check-machine .ensures) (c .before .before .before .before .enum-told .given .1)

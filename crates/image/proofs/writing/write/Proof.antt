@@ -27,7 +27,7 @@ enum-told c = search needs
 
 -- src/writing.rt:68:17
 put-machine-requires : tie.Need-put-machine-requires
-put-machine-requires c κs = 
+put-machine-requires c κs =
     let k = c .before .before .before in
     let a = k .before .before .before .before .args in
     let s = state (a .width) (a .words .now) (a .responses .now) (a .held) in
@@ -35,7 +35,7 @@ put-machine-requires c κs =
 
 -- src/writing.rt:69:27
 put-held-requires : tie.Need-put-held-requires
-put-held-requires c κs = 
+put-held-requires c κs =
     let k = c .before .before .before .before .before .before .before in
     let a = k .before .before .before .before .args in
     let s = state (a .width) (a .words .now) (a .responses .now) (a .held) in
@@ -44,7 +44,7 @@ put-held-requires c κs =
 
 -- src/writing.rt:54:1
 returns : tie.Need-returns
-returns c = 
+returns c =
     let k = c .before .before .before in
     let a = k .before .before .before .before .args in
     let s = state (a .width) (a .words .now) (a .responses .now) (a .held) in
@@ -56,7 +56,7 @@ same-length c = search needs
 
 -- src/writing.rt:54:1
 returns-2 : tie.Need-returns-2
-returns-2 c = 
+returns-2 c =
     let k = c .before .before .before .before .before .before .before .before .before .before in
     let a = k .before .before .before .before .args in
     let s = state (a .width) (a .words .now) (a .responses .now) (a .held) in
