@@ -138,7 +138,7 @@ job-law s h u =
     (next s _ 5 (omega arith) (next s _ 6 (omega arith) (next s _ 7 (omega arith) (next s _ 8 (omega arith) (next s _ 9 (omega arith) (next s _ 10 (omega arith)
     (next s _ 11 (omega arith) (next s _ 12 (omega arith) (next s _ 13 (omega arith) (rest s h u))))))))))))))
 
-drop-take : (k m : ℕ) (s : List ℕ) → drop k (take (k + m) s) ≡ take m (drop k s)
+pub drop-take : (k m : ℕ) (s : List ℕ) → drop k (take (k + m) s) ≡ take m (drop k s)
 drop-take zero m s = let e : zero + m ≡ m = omega arith in rw e
 drop-take (suc k) zero [] = let e : suc k + zero ≡ suc (k + zero) = omega arith in rw e
 drop-take (suc k) (suc m) [] = let e : suc k + suc m ≡ suc (k + suc m) = omega arith in rw e

@@ -34,7 +34,7 @@ unfolding items
 length-held Nothing = omega (arith, length-append (bytes 4 0) [], length-bytes 4 0)
 length-held (Holds o) = omega (arith, length-append (bytes 4 1) (jobBytes o ++ []), length-append (jobBytes o) [], length-bytes 4 1, length-job o)
 
-length-machine : (m : Machine) → length (machineBytes m) ≡ 13 + 8 * length (m .words) + length (m .responses)
+pub length-machine : (m : Machine) → length (machineBytes m) ≡ 13 + 8 * length (m .words) + length (m .responses)
 unfolding machineBytes
 length-machine m = simp (length-append, length-bytes, length-items) (omega arith)
 
@@ -45,7 +45,7 @@ whole s = simp append-assoc
 pub length-image : (s : State) → length (imageOf s) ≡ 13 + 8 * length (s .machine .words) + length (s .machine .responses) + (4 + 22 * length (heldJobs (s .held)))
 length-image s = rw (whole s, length-append) (omega (arith, length-machine (s .machine), length-held (s .held)))
 
-same-size : (m : Machine) → machineCheck m ≡ Passed → length (m .responses) ≡ length (m .words)
+pub same-size : (m : Machine) → machineCheck m ≡ Passed → length (m .responses) ≡ length (m .words)
 same-size m h = size-same (length (m .words)) (length (m .responses)) (sound m h .size)
 
 -- ---- the checks, in the code's terms: k and t are what the code found
