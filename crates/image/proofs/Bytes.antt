@@ -2,9 +2,8 @@
 -- Assumes nothing.
 use Prim.Native.Nat.{ℕ, zero, suc, _+_, _*_, _-_, _/_, _%_, _^_, _≤_, _<_}
 use mathlib.Core.Path.{_≡_, refl, sym, ap, _∙_}
-use mathlib.Core.List.{List, [], _∷_, _++_}
+use mathlib.Core.List.{List, [], _∷_}
 use mathlib.Core.Logic.{⊎-elim}
-use native.Mathlib.Numerals.{add-one}
 use native.Mathlib.Omega.{arith}
 use lib.ListN.{length, take, drop, getD, length-append, length-drop}
 use lib.Pow.{pow-mono, pow-add}
@@ -51,7 +50,7 @@ one-below s i h g k l = ⊎-elim (λ e. h k e) (⊎-elim (λ e. rw e g) (λ e. a
 pub length-bytes : (k x : ℕ) → length (bytes k x) ≡ k
 unfolding bytes
 length-bytes zero x = refl
-length-bytes (suc k) x = ap suc (length-bytes k (x / 256))
+length-bytes (suc k) x = ap suc (length-bytes k _)
 
 pub value-bytes : (k x : ℕ) → x < 256 ^ k → value (bytes k x) ≡ x
 unfolding value bytes

@@ -2,23 +2,22 @@
 -- "The place in 9 is the offset of the first field, read in order, that is cut off or breaks a rule"
 -- Assumes nothing.
 use Prim.Native.Nat.{ℕ, zero, suc, _+_, _*_, _-_, _≤_, _<_}
-use mathlib.Core.Path.{_≡_, refl, sym, ap, ap₂, _∙_}
+use mathlib.Core.Path.{_≡_, refl, sym, ap, _∙_}
 use mathlib.Core.Bool.{Bool, true, false}
-use mathlib.Core.Logic.{⊎-elim}
 use mathlib.Core.List.{List, [], _∷_, _++_, append-assoc}
 use native.Mathlib.Nat.{zero-add}
 use native.Mathlib.Omega.{arith}
-use lib.Dec.{ltb, leb, eqb}
-use lib.ListN.{length, take, drop, getD, replicate, length-drop, length-take}
+use lib.Dec.{ltb, eqb}
+use lib.ListN.{length, take, drop, replicate, length-drop}
 use lib.Seq.{take-take, getD-take, length-take-le}
 use borrow.Author.Tests.{lt-ltb, le-ltb, ltb-true, ltb-false, eqb-true}
 use Rattle.laws.specs.Bits.{pick}
-use Rattle.image.specs.declared.Scanned.{Scanned}
 use Rattle.image.specs.declared.Scanned.the-variants.{Sound, Broken}
-use Rattle.image.specs.Format.{value, byte}
-use Rattle.image.specs.Reading.{Field, scan, countIs, wordCount, widthByte, wordField, responseField, jobCount, jobField, widthIn, wordsIn, jobsAt, jobsIn, fieldsOf, scanned}
+use Rattle.jobs.specs.Runs.{State}
+use Rattle.image.specs.Format.{value, byte, imageOf}
+use Rattle.image.specs.Reading.{Field, scan, countIs, wordCount, widthByte, wordField, responseField, jobCount, jobField, widthIn, wordsIn, jobsIn, fieldsOf, scanned}
 use Rattle.image.proofs.Bytes.{drop-take}
-use Rattle.image.proofs.Scans.{Long, long}
+use Rattle.image.proofs.RoundTrip.{Stored, image-sound}
 
 -- ---- every place is within the bytes
 
@@ -159,3 +158,17 @@ alike k b l = go (ltb k 9) refl
 pub cut-off : (k : ℕ) (b : List ℕ) → scanned b ≡ Sound → k < length b → scanned (take k b) ≡ Broken (startOf (fieldsOf b) 0 k)
 unfolding scanned
 cut-off k b h l = alike k b l ∙ prefix (fieldsOf b) 0 k b h l ∙ ap (λ (q : ℕ). Broken (startOf (fieldsOf b) 0 q)) (zero-add k)
+
+-- that start is at or before offset k (and, by definition, the field that starts there goes beyond k)
+pub start-below : (fs : List Field) (at k : ℕ) → at ≤ k → startOf fs at k ≤ k
+unfolding startOf
+start-below [] at k h = h
+start-below (f ∷ fs) at k h = go (ltb k (at + f .size)) refl (start-below fs (at + f .size) k)
+  where
+    go : (t : Bool) → ltb k (at + f .size) ≡ t → (at + f .size ≤ k → startOf fs (at + f .size) k ≤ k) → pick t at (startOf fs (at + f .size) k) ≤ k
+    go true e r = h
+    go false e r = r (ltb-false k (at + f .size) e)
+
+-- so of an image
+pub image-cut-off : (s : State) (k : ℕ) → Stored s → k < length (imageOf s) → scanned (take k (imageOf s)) ≡ Broken (startOf (fieldsOf (imageOf s)) 0 k)
+image-cut-off s k t l = cut-off k (imageOf s) (image-sound s t) l

@@ -1,19 +1,18 @@
 -- Theorem: the image of a machine is sound, and reads as that machine. So two machines with one image are one machine.
 -- Document 01, 'The image': "the machine an image stands for is width, words, responses and job".
 -- Assumes nothing.
-use Prim.Native.Nat.{ℕ, zero, suc, _+_, _*_, _-_, _%_, _^_, _≤_, _<_}
+use Prim.Native.Nat.{ℕ, zero, suc, _+_, _*_, _%_, _^_, _≤_, _<_}
 use mathlib.Core.Path.{_≡_, refl, sym, ap, ap₂, _∙_}
-use mathlib.Core.Bool.{Bool, true, false, not, _&&_, _||_}
+use mathlib.Core.Bool.{true, false, not, _||_}
 use mathlib.Core.List.{List, [], _∷_, _++_, append-assoc, append-nil}
 use native.Mathlib.Omega.{arith}
-use lib.Dec.{ltb, leb, eqb}
-use lib.ListN.{length, take, drop, getD, replicate, length-append}
+use lib.Dec.{ltb, eqb}
+use lib.ListN.{length, take, drop, replicate, length-append}
 use lib.Pow.{pow-mono}
 use lib.Seq.{take-at, drop-at, drop-drop}
-use borrow.Author.Tests.{le-leb, eq-eqb, ltb-false, eqb-false, not-true}
+use borrow.Author.Tests.{le-leb, eq-eqb, ltb-false, eqb-false}
 use Rattle.laws.specs.Bits.{pick}
 use Rattle.machine.specs.declared.Check.the-variants.{Passed}
-use Rattle.machine.specs.Machine.{Machine}
 use Rattle.machine.specs.Refusals.{badSize, badWidth, machineCheck}
 use Rattle.machine.proofs.Checks as checks
 use Rattle.jobs.specs.declared.Job.{Job}
@@ -21,8 +20,7 @@ use Rattle.jobs.specs.declared.Held.{Held}
 use Rattle.jobs.specs.declared.Held.the-variants.{Nothing, Holds}
 use Rattle.jobs.specs.Places.{badHeld}
 use Rattle.jobs.specs.Runs.{State}
-use Rattle.image.specs.declared.Scanned.{Scanned}
-use Rattle.image.specs.declared.Scanned.the-variants.{Sound, Broken}
+use Rattle.image.specs.declared.Scanned.the-variants.{Sound}
 use Rattle.image.specs.Format.{bytes, value, items, section, jobBytes, jobOf, heldJobs, imageOf}
 use Rattle.image.specs.Reading.{Field, scan, countIs, wordCount, widthByte, wordField, responseField, jobCount, jobField, widthIn, wordsIn, jobsAt, jobsIn, heldIn, fieldsOf, scanned, numbers, stateIn}
 use Rattle.image.specs.Calls.{badJob}

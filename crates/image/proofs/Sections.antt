@@ -1,13 +1,13 @@
 -- Sections written and sections read: a field that is written right is passed, and bytes that are taken are the bytes of what they say.
 -- Assumes nothing.
-use Prim.Native.Nat.{ℕ, zero, suc, _+_, _*_, _-_, _^_, _≤_, _<_}
+use Prim.Native.Nat.{ℕ, zero, suc, _+_, _*_, _^_, _≤_}
 use mathlib.Core.Path.{_≡_, refl, sym, ap, ap₂, _∙_}
 use mathlib.Core.Bool.{Bool, true, false, not}
-use mathlib.Core.List.{List, [], _∷_, _++_, append-assoc, append-nil}
+use mathlib.Core.List.{List, [], _∷_, _++_, append-assoc}
 use native.Mathlib.Nat.{add-zero, mul-zero}
 use native.Mathlib.Omega.{arith}
-use lib.Dec.{ltb, leb, eqb}
-use lib.ListN.{length, take, drop, getD, replicate, length-append, length-drop, take-append-drop}
+use lib.Dec.{ltb, eqb}
+use lib.ListN.{length, take, drop, replicate, length-append, length-drop, take-append-drop}
 use lib.Pow.{pow-mono}
 use lib.Seq.{take-at, drop-at, drop-drop, length-take-le}
 use borrow.Author.Tests.{le-ltb, lt-leb, leb-false, ne-eqb, not-true}
@@ -15,12 +15,11 @@ use Rattle.laws.specs.Bits.{pick}
 use Rattle.machine.specs.declared.Found.the-variants.{At, Nothing}
 use Rattle.machine.specs.Resolution.{lowest}
 use Rattle.machine.specs.Refusals.{tooWide}
-use Rattle.image.specs.declared.Scanned.{Scanned}
 use Rattle.image.specs.declared.Scanned.the-variants.{Sound, Broken}
 use Rattle.image.specs.Format.{bytes, value, items, jobBytes, jobOf}
 use Rattle.image.specs.Reading.{Field, scan, wordField, responseField, numbers}
 use Rattle.image.proofs.Bytes.{Under, AreBytes, under-take, under-drop, length-bytes, value-bytes, bytes-value, job-law}
-use Rattle.image.proofs.Scans.{Held, Next, next}
+use Rattle.image.proofs.Scans.{next}
 
 -- ---- written: a field that is right is passed
 

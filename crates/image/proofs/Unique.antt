@@ -2,37 +2,33 @@
 -- and sound bytes give a machine and a job that pass every check of writing but room, so that they can be stored and stepped again.
 -- Document 01, 'The image' and number 9.
 -- Assumes nothing.
-use Prim.Native.Nat.{ℕ, zero, suc, _+_, _*_, _-_, _^_, _≤_, _<_}
+use Prim.Native.Nat.{ℕ, zero, suc, _+_, _*_, _^_, _≤_, _<_}
 use mathlib.Core.Path.{_≡_, refl, sym, ap, ap₂, _∙_}
-use mathlib.Core.Bool.{Bool, true, false, not, _&&_, _||_}
+use mathlib.Core.Bool.{false}
 use mathlib.Core.Logic.{_⊎_, inl, inr, ⊎-elim}
-use mathlib.Core.List.{List, [], _∷_, _++_, append-assoc, append-nil}
+use mathlib.Core.List.{List, [], _∷_, _++_}
 use native.Mathlib.Omega.{arith}
-use lib.Dec.{ltb, leb, eqb}
-use lib.ListN.{length, take, drop, getD, replicate, length-drop}
+use lib.Dec.{leb, eqb}
+use lib.ListN.{length, take, drop, replicate, length-drop}
 use native.Mathlib.Nat.{pow-suc}
-use lib.Seq.{drop-drop, length-take-le}
+use lib.Seq.{length-take-le}
 use borrow.Author.Tests.{leb-true, eqb-true, eq-eqb, ne-eqb, le-ltb, not-true}
 use Rattle.laws.specs.Bits.{pick}
 use Rattle.laws.proofs.Bits.{and-left, and-right}
-use Rattle.machine.specs.declared.Check.the-variants.{Passed}
-use Rattle.machine.specs.Machine.{Machine}
 use Rattle.machine.specs.Refusals.{badSize, badWidth, machineCheck}
-use Rattle.jobs.specs.declared.Job.{Job}
 use Rattle.jobs.specs.declared.Held.{Held}
 use Rattle.jobs.specs.declared.Held.the-variants.{Nothing, Holds}
 use Rattle.jobs.specs.Places.{badHeld}
 use Rattle.jobs.specs.Runs.{State}
-use Rattle.image.specs.declared.Scanned.{Scanned}
-use Rattle.image.specs.declared.Scanned.the-variants.{Sound, Broken}
+use Rattle.image.specs.declared.Scanned.the-variants.{Sound}
 use Rattle.image.specs.Format.{bytes, value, items, section, jobBytes, jobOf, heldJobs, imageOf}
-use Rattle.image.specs.Reading.{Field, scan, countIs, wordCount, widthByte, wordField, responseField, jobCount, jobField, widthIn, wordsIn, jobsAt, jobsIn, heldIn, fieldsOf, scanned, numbers, stateIn}
+use Rattle.image.specs.Reading.{scan, countIs, wordCount, widthByte, wordField, responseField, jobCount, jobField, widthIn, wordsIn, jobsAt, jobsIn, heldIn, fieldsOf, scanned, numbers, stateIn}
 use Rattle.image.specs.Calls.{badJob}
 use Rattle.image.proofs.Bytes.{Under, AreBytes, under-drop, under-take, length-numbers, value-one}
-use Rattle.image.proofs.Scans.{Held as Holding, Next, next, run}
+use Rattle.image.proofs.Scans.{next, run}
 use Rattle.image.proofs.ReadCalls.{zero-picks, other-picks}
 use Rattle.image.proofs.Sections.{number-cut, items-cut, job-cut, words-held, none-wide, nothing-left}
-use Rattle.image.proofs.RoundTrip.{ConstantFits, Stored, flat, image-back}
+use Rattle.image.proofs.RoundTrip.{ConstantFits, Stored, flat}
 
 -- ---- what sound bytes show, field by field
 
