@@ -60,12 +60,13 @@ prefix (f ∷ fs) at k b h l =
   where
     same : (j : ℕ) → f .size ≤ k → j ≡ k - f .size → drop (f .size) (take k b) ≡ take j (drop (f .size) b)
     same j m e = let q : k ≡ f .size + j = omega arith in rw q (drop-take (f .size) j b)
+
     go : (t u v : Bool) → ltb (length b) (f .size) ≡ t → f .right (take (f .size) b) ≡ u → ltb k (f .size) ≡ v
         → pick t (Broken at) (pick u (scan fs (at + f .size) (drop (f .size) b)) (Broken at)) ≡ Sound
         → (scan fs (at + f .size) (drop (f .size) b) ≡ Sound → k - f .size < length (drop (f .size) b)
-          → scan fs (at + f .size) (take (k - f .size) (drop (f .size) b)) ≡ Broken (startOf fs (at + f .size) (at + f .size + (k - f .size))))
+        → scan fs (at + f .size) (take (k - f .size) (drop (f .size) b)) ≡ Broken (startOf fs (at + f .size) (at + f .size + (k - f .size))))
         → pick (ltb (length (take k b)) (f .size)) (Broken at) (pick (f .right (take (f .size) (take k b))) (scan fs (at + f .size) (drop (f .size) (take k b))) (Broken at))
-          ≡ Broken (pick (ltb (at + k) (at + f .size)) at (startOf fs (at + f .size) (at + k)))
+        ≡ Broken (pick (ltb (at + k) (at + f .size)) at (startOf fs (at + f .size) (at + k)))
     go true u v e i j g r = absurd (let z : _≡_ {A = ℕ} 0 1 = cc in omega arith)
     go false false v e i j g r = absurd (let z : _≡_ {A = ℕ} 0 1 = cc in omega arith)
     go false true true e i j g r =
@@ -95,7 +96,7 @@ beyond (f ∷ fs) gs hs at b l = go (ltb (length b) (f .size)) refl (λ m. beyon
   where
     go : (t : Bool) → ltb (length b) (f .size) ≡ t → (length (drop (f .size) b) < sizes fs → scan (fs ++ gs) (at + f .size) (drop (f .size) b) ≡ scan (fs ++ hs) (at + f .size) (drop (f .size) b))
         → pick (ltb (length b) (f .size)) (Broken at) (pick (f .right (take (f .size) b)) (scan (fs ++ gs) (at + f .size) (drop (f .size) b)) (Broken at))
-          ≡ pick (ltb (length b) (f .size)) (Broken at) (pick (f .right (take (f .size) b)) (scan (fs ++ hs) (at + f .size) (drop (f .size) b)) (Broken at))
+        ≡ pick (ltb (length b) (f .size)) (Broken at) (pick (f .right (take (f .size) b)) (scan (fs ++ hs) (at + f .size) (drop (f .size) b)) (Broken at))
     go true e r = rw e
     go false e r = rw (e, r (omega (arith, length-drop (f .size) b, ltb-false (length b) (f .size) e)))
 
@@ -134,17 +135,20 @@ late k b l m = go (ltb k (17 + 9 * wordsIn b)) refl
   where
     n : length (take k b) ≡ k
     n = length-take-le k b (omega arith)
+
     w : widthIn (take k b) ≡ widthIn b
     w = getD-take k b 4 0 (omega arith)
+
     c : wordsIn (take k b) ≡ wordsIn b
     c = ap value (kept k 5 4 b (omega arith))
+
     go : (t : Bool) → ltb k (17 + 9 * wordsIn b) ≡ t → Alike k b
     go true f =
         rw (fields7 (take k b), fields7 b, w, c)
         (beyond (first7 (widthIn b) (wordsIn b)) _ _ 0 (take k b) (omega (arith, ltb-true k (17 + 9 * wordsIn b) f, sizes7 (widthIn b) (wordsIn b), n)))
     go false f =
         let j : value (take 4 (drop (13 + 9 * wordsIn b) (take k b))) ≡ jobsIn b =
-            ap value (kept k (13 + 9 * wordsIn b) 4 b (omega (arith, ltb-false k (17 + 9 * wordsIn b) f))) in
+        ap value (kept k (13 + 9 * wordsIn b) 4 b (omega (arith, ltb-false k (17 + 9 * wordsIn b) f))) in
         rw (fields7 (take k b), fields7 b, w, c, j)
 
 alike : (k : ℕ) (b : List ℕ) → k < length b → Alike k b

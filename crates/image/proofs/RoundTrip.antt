@@ -186,7 +186,7 @@ module _ (s : State) (t : Stored s) where
       ∙ passed wordCount _ 5 (bytes 4 n) _ (length-bytes 4 n) (rw (c, le-leb 1 n (p .some), le-leb n 1024 (p .few)))
       ∙ words-pass w 9 (s .machine .words) _ _ (p .narrow) (p .words)
       ∙ passed (countIs n) _ (9 + 8 * n) (bytes 4 (length (s .machine .responses))) _ (length-bytes 4 (length (s .machine .responses)))
-        (eq-eqb (value (bytes 4 (length (s .machine .responses)))) n (value-bytes 4 (length (s .machine .responses)) (omega (arith, p .same, p .few)) ∙ p .same))
+      (eq-eqb (value (bytes 4 (length (s .machine .responses)))) n (value-bytes 4 (length (s .machine .responses)) (omega (arith, p .same, p .few)) ∙ p .same))
       ∙ r
       ∙ job-passed w (9 + 8 * n + 4 + n) (s .held) (t .job) (t .constant)
 

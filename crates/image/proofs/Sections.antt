@@ -54,8 +54,13 @@ pub numbers-back : (k : ℕ) (xs b : List ℕ) → Under (256 ^ k) xs → number
 unfolding items numbers
 numbers-back k [] b u = refl
 numbers-back k (x ∷ xs) b u =
-    rw (append-assoc, take-at (bytes k x) (items (bytes k) xs ++ b) k (length-bytes k x), drop-at (bytes k x) (items (bytes k) xs ++ b) k (length-bytes k x),
-      value-bytes k x (u .0), numbers-back k xs b (u .1))
+    rw (
+      append-assoc,
+      take-at (bytes k x) (items (bytes k) xs ++ b) k (length-bytes k x),
+      drop-at (bytes k x) (items (bytes k) xs ++ b) k (length-bytes k x),
+      value-bytes k x (u .0),
+      numbers-back k xs b (u .1),
+    )
 
 -- words that 3 has nothing against
 pub all-fit : (n k : ℕ) (ws : List ℕ) → lowest (tooWide n) k ws ≡ Nothing → Under (2 ^ n) ws
@@ -97,9 +102,10 @@ pub words-held : (w n : ℕ) (fs : List Field) (b : List ℕ) (at : ℕ) → at 
 unfolding numbers
 words-held w zero fs b at l h = tt
 words-held w (suc n) fs b at l h =
-    let s = next (wordField w) (replicate n (wordField w) ++ fs) b at l h in
-    (leb-false (2 ^ w) (value (take 8 (drop at b))) (not-true _ (s .held .right)),
-    rw drop-drop (words-held w n fs b (at + 8) (s .held .fits) (s .rest)))
+    let s = next (wordField w) (replicate n (wordField w) ++ fs) b at l h in (
+      leb-false (2 ^ w) (value (take 8 (drop at b))) (not-true _ (s .held .right)),
+      rw drop-drop (words-held w n fs b (at + 8) (s .held .fits) (s .rest)),
+    )
 
 pub none-wide : (n k : ℕ) (ws : List ℕ) → Under (2 ^ n) ws → lowest (tooWide n) k ws ≡ Nothing
 unfolding lowest

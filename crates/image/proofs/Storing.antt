@@ -107,9 +107,10 @@ pub wrote-machine : (m : Machine) (d d0 d1 d2 d3 d4 d5 : List ℕ) (p0 p1 p2 p3 
     → (p5 ≡ 13 + 8 * length (m .words) + length (m .responses)) × (d5 ≡ sets d 0 (machineBytes m))
 unfolding machineBytes items
 wrote-machine m d d0 d1 d2 d3 d4 d5 p0 p1 p2 p3 p4 p5 e0 e1 e2 e3 e4 e5 =
-    let r : items (bytes 1) (m .responses) ≡ m .responses = items-one (m .responses) (under-at 256 (m .responses) (e5 .2)) in
-    (omega arith,
-    rw r (simp (append-nil, append-assoc) (simp (e5 .1, e4 .1, e3 .1, e2 .1, e1 .1, e0 .1, sets-append, length-bytes, length-items, e4 .0, e3 .0, e2 .0, e1 .0, e0 .0, zero-add))))
+    let r : items (bytes 1) (m .responses) ≡ m .responses = items-one (m .responses) (under-at 256 (m .responses) (e5 .2)) in (
+      omega arith,
+      rw r (simp (append-nil, append-assoc) (simp (e5 .1, e4 .1, e3 .1, e2 .1, e1 .1, e0 .1, sets-append, length-bytes, length-items, e4 .0, e3 .0, e2 .0, e1 .0, e0 .0, zero-add))),
+    )
 
 -- the job's section, by what is held
 pub stored-none : (h : Held) (d d1 : List ℕ) (at r : ℕ) → h ≡ Nothing → (r ≡ at + 4) × (d1 ≡ sets d at (bytes 4 0))

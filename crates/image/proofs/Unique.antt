@@ -151,7 +151,7 @@ unique b u h =
     let a5 : drop (13 + 8 * n) b ≡ items (bytes 1) (numbers 1 n (drop (13 + 8 * n) b)) ++ drop (13 + 9 * n) b = rw e5 at (items-cut b u 1 n (13 + 8 * n) (omega arith)) in
     flat (stateIn b)
     ∙ joined (widthIn b) (items (bytes 8) (numbers 8 n (drop 9 b))) (items (bytes 1) (numbers 1 n (drop (13 + 8 * n) b))) (section jobBytes (heldJobs (heldIn b)))
-      a0 a1 a2 a3 a4 a5 (job-of b u p .bytes-of) (length-numbers 8 n (drop 9 b)) (length-numbers 1 n (drop (13 + 8 * n) b))
+    a0 a1 a2 a3 a4 a5 (job-of b u p .bytes-of) (length-numbers 8 n (drop 9 b)) (length-numbers 1 n (drop (13 + 8 * n) b))
 
 -- the bytes that read as a machine are its one image
 pub one-image : (b : List ℕ) (s : State) → AreBytes b → scanned b ≡ Sound → stateIn b ≡ s → b ≡ imageOf s
@@ -176,7 +176,7 @@ stored-again b u h =
     let n = wordsIn b in
     let j = job-of b u p in
     let a : badSize (length (numbers 8 n (drop 9 b))) (length (numbers 1 n (drop (13 + 8 * n) b))) ≡ false =
-        simp length-numbers (size-right n n (p .some) (p .few) refl) in
+    simp length-numbers (size-right n n (p .some) (p .few) refl) in
     record {
       machine = rw (a, p .width, none-wide (widthIn b) 0 (numbers 8 n (drop 9 b)) (p .words));
       job = j .fit;

@@ -96,6 +96,6 @@ write-done s d d1 d2 p q k e h f g =
     let l : q ≡ length (imageOf s) = omega (arith, length-image s, f .0, g .0) in
     let i : p ≡ 0 + length (machineBytes (s .machine)) = omega (arith, length-machine (s .machine), f .0) in
     let j : d2 ≡ sets d 0 (imageOf s) =
-        g .1 ∙ ap₂ (λ (x : List ℕ) (y : ℕ). sets x y (section jobBytes (heldJobs (s .held)))) (f .1) i
-        ∙ sym (sets-append (machineBytes (s .machine)) (section jobBytes (heldJobs (s .held))) d 0) ∙ ap (sets d 0) (sym (whole s)) in
+    g .1 ∙ ap₂ (λ (x : List ℕ) (y : ℕ). sets x y (section jobBytes (heldJobs (s .held)))) (f .1) i
+    ∙ sym (sets-append (machineBytes (s .machine)) (section jobBytes (heldJobs (s .held))) d 0) ∙ ap (sets d 0) (sym (whole s)) in
     (rw (← e, h) (ap wrote.Length l), rw (← e, h) j)

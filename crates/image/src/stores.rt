@@ -54,7 +54,12 @@ pub(crate) fn put_bytes(out: &mut [u8], at: usize, list: &[u8]) -> usize
 }
 
 // The three sections before the job.
-pub(crate) fn put_machine(out: &mut [u8], words: &[u64], responses: &[Response], width: u32) -> usize
+pub(crate) fn put_machine(
+    out: &mut [u8],
+    words: &[u64],
+    responses: &[Response],
+    width: u32,
+) -> usize
     requires { ⌜ 13 + 8 * length (now words) + length (now responses) ≤ length (now out) ⌝ }
     ensures { λ r. ⌜ (r ≡ 13 + 8 * length (now (words .entry)) + length (now (responses .entry))) × (now (out .exit) ≡ sets (now (out .entry)) 0 (machineBytes (machine width (now (words .entry)) (now (responses .entry))))) ⌝ }
 {

@@ -51,13 +51,7 @@ fn check_write(words: &[u64], responses: &[Response], width: u32, held: Held, ro
     }
 }
 
-pub fn write(
-    words: &[u64],
-    responses: &[Response],
-    width: u32,
-    held: Held,
-    out: &mut [u8],
-) -> Wrote
+pub fn write(words: &[u64], responses: &[Response], width: u32, held: Held, out: &mut [u8]) -> Wrote
     ensures { λ r. ⌜ r ≡ writeOf (state width (now (words .entry)) (now (responses .entry)) held) (length (now (out .entry))) ⌝ }
     ensures { λ _. ⌜ now (out .exit) ≡ written (state width (now (words .entry)) (now (responses .entry)) held) (now (out .entry)) ⌝ }
 {

@@ -45,10 +45,11 @@ loop-less c = omega arith
 loop-again : tie.Need-loop-again Inv-loop μ-loop
 loop-again c =
     let l = c .before .before .loop in
-    let a = c .before .before .before .args in
-    (omega arith,
-    sym (rw (← (l .inv .1)) at (value-down (a .image .now) (a .at) (a .k) (l .i) (omega arith) (omega arith) (omega arith))),
-    omega (arith, c .shared-slice-known .given (a .at + (l .i - 1)), pow-down (a .k) (l .i) (omega arith) (omega arith)))
+    let a = c .before .before .before .args in (
+      omega arith,
+      sym (rw (← (l .inv .1)) at (value-down (a .image .now) (a .at) (a .k) (l .i) (omega arith) (omega arith) (omega arith))),
+      omega (arith, c .shared-slice-known .given (a .at + (l .i - 1)), pow-down (a .k) (l .i) (omega arith) (omega arith)),
+    )
 
 returns : tie.Need-returns Inv-loop μ-loop
 returns c =

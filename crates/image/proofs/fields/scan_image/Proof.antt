@@ -32,8 +32,8 @@ shared-slice-read-width : tie.Need-shared-slice-read-width
 shared-slice-read-width c =
     let a = c .before .before .before .before .before .before .before .before .args in
     let h = (head (a .image .now) (sym (c .before .before .before .before .before .before .count-is .ensures) ∙ not-false _ (c .before .before .before .before .before .if1 .left))
-      (sym (c .before .before .before .before .width-right .ensures) ∙ not-false _ (c .before .before .before .if2 .left))
-      (sym (c .before .before .word-count-right .ensures) ∙ not-false _ (c .before .if3 .left))) in
+    (sym (c .before .before .before .before .width-right .ensures) ∙ not-false _ (c .before .before .before .if2 .left))
+    (sym (c .before .before .word-count-right .ensures) ∙ not-false _ (c .before .if3 .left))) in
     omega (arith, h .fits)
 
 cast-width : tie.Need-cast-width
@@ -43,16 +43,16 @@ number-at-requires : tie.Need-number-at-requires
 number-at-requires c κs =
     let a = c .before .before .before .before .before .before .before .before .args in
     let h = (head (a .image .now) (sym (c .before .before .before .before .before .before .count-is .ensures) ∙ not-false _ (c .before .before .before .before .before .if1 .left))
-      (sym (c .before .before .before .before .width-right .ensures) ∙ not-false _ (c .before .before .before .if2 .left))
-      (sym (c .before .before .word-count-right .ensures) ∙ not-false _ (c .before .if3 .left))) in
+    (sym (c .before .before .before .before .width-right .ensures) ∙ not-false _ (c .before .before .before .if2 .left))
+    (sym (c .before .before .word-count-right .ensures) ∙ not-false _ (c .before .if3 .left))) in
     (h .fits, omega arith)
 
 scan-words-requires : tie.Need-scan-words-requires
 scan-words-requires c κs =
     let a = c .before .before .before .before .before .before .before .before .before .args in
     let h = (head (a .image .now) (sym (c .before .before .before .before .before .before .before .count-is .ensures) ∙ not-false _ (c .before .before .before .before .before .before .if1 .left))
-      (sym (c .before .before .before .before .before .width-right .ensures) ∙ not-false _ (c .before .before .before .before .if2 .left))
-      (sym (c .before .before .before .word-count-right .ensures) ∙ not-false _ (c .before .before .if3 .left))) in
+    (sym (c .before .before .before .before .before .width-right .ensures) ∙ not-false _ (c .before .before .before .before .if2 .left))
+    (sym (c .before .before .before .word-count-right .ensures) ∙ not-false _ (c .before .before .if3 .left))) in
     (h .fits, omega (arith, h .few, c .number-at .ensures))
 
 enum-known-words : tie.Need-enum-known-words
@@ -65,8 +65,8 @@ scan-responses-requires : tie.Need-scan-responses-requires
 scan-responses-requires c κs =
     let a = c .before .before .before .before .before .before .before .before .before .before .before .before .args in
     let h = (head (a .image .now) (sym (c .before .before .before .before .before .before .before .before .before .before .count-is .ensures) ∙ not-false _ (c .before .before .before .before .before .before .before .before .before .if1 .left))
-      (sym (c .before .before .before .before .before .before .before .before .width-right .ensures) ∙ not-false _ (c .before .before .before .before .before .before .before .if2 .left))
-      (sym (c .before .before .before .before .before .before .word-count-right .ensures) ∙ not-false _ (c .before .before .before .before .before .if3 .left))) in
+    (sym (c .before .before .before .before .before .before .before .before .width-right .ensures) ∙ not-false _ (c .before .before .before .before .before .before .before .if2 .left))
+    (sym (c .before .before .before .before .before .before .word-count-right .ensures) ∙ not-false _ (c .before .before .before .before .before .if3 .left))) in
     let e : c .before .before .before .number-at .result ≤ 1024 = omega (arith, h .few, c .before .before .before .number-at .ensures) in
     (c .before .before .scan-words .ensures .1 (c .enum-told .given .1), e)
 
@@ -74,8 +74,8 @@ returns-4 : tie.Need-returns-4
 returns-4 c =
     let a = c .before .before .before .before .before .before .before .before .before .before .before .before .before .args in
     let h = (head (a .image .now) (sym (c .before .before .before .before .before .before .before .before .before .before .before .count-is .ensures) ∙ not-false _ (c .before .before .before .before .before .before .before .before .before .before .if1 .left))
-      (sym (c .before .before .before .before .before .before .before .before .before .width-right .ensures) ∙ not-false _ (c .before .before .before .before .before .before .before .before .if2 .left))
-      (sym (c .before .before .before .before .before .before .before .word-count-right .ensures) ∙ not-false _ (c .before .before .before .before .before .before .if3 .left))) in
+    (sym (c .before .before .before .before .before .before .before .before .before .width-right .ensures) ∙ not-false _ (c .before .before .before .before .before .before .before .before .if2 .left))
+    (sym (c .before .before .before .before .before .before .before .word-count-right .ensures) ∙ not-false _ (c .before .before .before .before .before .before .if3 .left))) in
     words-broken (a .image .now) (c .before .before .before .before .number-at .result) _ (c .before .before .before .scan-words .result) h (c .before .before .before .before .number-at .ensures)
     (c .before .before .before .scan-words .ensures .0) (c .before .words .given .1)
 
@@ -83,8 +83,8 @@ returns-5 : tie.Need-returns-5
 returns-5 c =
     let a = c .before .before .before .before .before .before .before .before .before .before .before .before .before .args in
     let h = (head (a .image .now) (sym (c .before .before .before .before .before .before .before .before .before .before .before .count-is .ensures) ∙ not-false _ (c .before .before .before .before .before .before .before .before .before .before .if1 .left))
-      (sym (c .before .before .before .before .before .before .before .before .before .width-right .ensures) ∙ not-false _ (c .before .before .before .before .before .before .before .before .if2 .left))
-      (sym (c .before .before .before .before .before .before .before .word-count-right .ensures) ∙ not-false _ (c .before .before .before .before .before .before .if3 .left))) in
+    (sym (c .before .before .before .before .before .before .before .before .before .width-right .ensures) ∙ not-false _ (c .before .before .before .before .before .before .before .before .if2 .left))
+    (sym (c .before .before .before .before .before .before .before .word-count-right .ensures) ∙ not-false _ (c .before .before .before .before .before .before .if3 .left))) in
     words-sound (a .image .now) (c .before .before .before .before .number-at .result) (c .before .before .before .scan-words .result) _ h (c .before .before .before .before .number-at .ensures)
     (c .before .before .before .scan-words .ensures .0) (c .before .enum-told .given .1) (c .scan-responses .ensures)
 

@@ -52,7 +52,7 @@ returns-3 : tie.Need-returns-3
 returns-3 c =
     let a = c .before .before .before .before .before .before .before .args in
     sym (job-one (a .width) (a .at) (a .image .now) (c .before .before .before .before .before .before .before .pre) (sym (c .before .before .before .before .before .job-count-right .ensures) ∙ not-false _ (c .before .before .before .before .if1 .left))
-      (λ z. c .before .before .if2 .left (c .before .before .before .number-at .ensures ∙ z))
+    (λ z. c .before .before .if2 .left (c .before .before .before .number-at .ensures ∙ z))
     ∙ field-wrong (jobField (a .width)) _ (a .image .now) (a .at + 4) (sym (c .before .job-right .ensures) ∙ not-true _ (c .if3 .taken)))
 
 add-scan-end-2 : tie.Need-add-scan-end-2
@@ -70,7 +70,7 @@ returns-4 c =
     let a = c .before .before .before .before .before .before .before .before .args in
     c .scan-end2 .ensures
     ∙ sym (job-one (a .width) (a .at) (a .image .now) (c .before .before .before .before .before .before .before .before .pre) (sym (c .before .before .before .before .before .before .job-count-right .ensures) ∙ not-false _ (c .before .before .before .before .before .if1 .left))
-      (λ z. c .before .before .before .if2 .left (c .before .before .before .before .number-at .ensures ∙ z))
+    (λ z. c .before .before .before .if2 .left (c .before .before .before .before .number-at .ensures ∙ z))
     ∙ job-end (a .width) (a .at) (a .image .now) (sym (c .before .before .job-right .ensures) ∙ not-false _ (c .before .if3 .left)))
 
 pub scan-job-spec : {M : Type 1} → statement M

@@ -33,10 +33,11 @@ word-right-requires c κs = omega arith
 returns : tie.Need-returns Inv-loop μ-loop
 returns c =
     let l = c .before .before .before .loop in
-    let a = c .before .before .before .before .before .args in
-    (λ fs. l .inv .2 fs ∙ rw (one-more (a .n) (l .i) (wordField (a .width)) fs (omega arith))
-      (field-wrong (wordField (a .width)) _ (a .image .now) (9 + 8 * l .i) (sym (c .before .word-right .ensures) ∙ not-true _ (c .if1 .taken))),
-    λ z. absurd (let q : _≡_ {A = ℕ} 0 1 = cc in omega arith))
+    let a = c .before .before .before .before .before .args in (
+      λ fs. l .inv .2 fs ∙ rw (one-more (a .n) (l .i) (wordField (a .width)) fs (omega arith))
+          (field-wrong (wordField (a .width)) _ (a .image .now) (9 + 8 * l .i) (sym (c .before .word-right .ensures) ∙ not-true _ (c .if1 .taken))),
+      λ z. absurd (let q : _≡_ {A = ℕ} 0 1 = cc in omega arith),
+    )
 
 add-i : tie.Need-add-i Inv-loop μ-loop
 add-i c = omega arith
@@ -49,9 +50,11 @@ loop-again c =
     let l = c .before .before .before .loop in
     let a = c .before .before .before .before .before .args in
     let h = sym (c .before .word-right .ensures) ∙ not-false _ (c .if1 .left) in
-    let f : 9 + 8 * l .i + 8 ≤ length (a .image .now) = held (wordField (a .width)) (a .image .now) (9 + 8 * l .i) (l .inv .1) h .fits in
-    (omega arith, omega arith,
-    λ fs. l .inv .2 fs ∙ rw (one-more (a .n) (l .i) (wordField (a .width)) fs (omega arith)) (word-step (a .width) (l .i) (a .image .now) _ h))
+    let f : 9 + 8 * l .i + 8 ≤ length (a .image .now) = held (wordField (a .width)) (a .image .now) (9 + 8 * l .i) (l .inv .1) h .fits in (
+      omega arith,
+      omega arith,
+      λ fs. l .inv .2 fs ∙ rw (one-more (a .n) (l .i) (wordField (a .width)) fs (omega arith)) (word-step (a .width) (l .i) (a .image .now) _ h),
+    )
 
 returns-2 : tie.Need-returns-2 Inv-loop μ-loop
 returns-2 c =

@@ -39,9 +39,11 @@ loop-less c = omega arith
 loop-again : tie.Need-loop-again Inv-loop μ-loop
 loop-again c =
     let l = c .before .before .loop in
-    let a = c .before .before .before .args in
-    (omega arith, simp length-set (omega arith),
-    sym (fill-bytes-turn (l .responses) (a .image .now) (a .at) (l .i) (a .n) (omega arith) (omega arith)) ∙ l .inv .2)
+    let a = c .before .before .before .args in (
+      omega arith,
+      simp length-set (omega arith),
+      sym (fill-bytes-turn (l .responses) (a .image .now) (a .at) (l .i) (a .n) (omega arith) (omega arith)) ∙ l .inv .2,
+    )
 
 same-length : tie.Need-same-length Inv-loop μ-loop
 same-length c = search needs

@@ -45,9 +45,11 @@ loop-less c = omega arith
 loop-again : tie.Need-loop-again Inv-loop μ-loop
 loop-again c =
     let l = c .before .before .loop in
-    let a = c .before .before .before .before .before .args in
-    (omega arith, simp length-set (omega arith),
-    rw (c .number-at .ensures) (sym (fill-words-turn (l .words) (a .image .now) (l .i) (a .n) (omega arith)) ∙ l .inv .2))
+    let a = c .before .before .before .before .before .args in (
+      omega arith,
+      simp length-set (omega arith),
+      rw (c .number-at .ensures) (sym (fill-words-turn (l .words) (a .image .now) (l .i) (a .n) (omega arith)) ∙ l .inv .2),
+    )
 
 same-length : tie.Need-same-length Inv-loop μ-loop
 same-length c = search needs

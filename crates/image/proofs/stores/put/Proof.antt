@@ -37,9 +37,11 @@ loop-less c = omega arith
 loop-again : tie.Need-loop-again Inv-loop μ-loop
 loop-again c =
     let l = c .before .loop in
-    let a = c .before .before .args in
-    (omega arith, simp length-set (omega arith),
-    sym (put-turn (l .out) (a .at) (a .k) (l .y) (l .j) (search needs)) ∙ l .inv .2)
+    let a = c .before .before .args in (
+      omega arith,
+      simp length-set (omega arith),
+      sym (put-turn (l .out) (a .at) (a .k) (l .y) (l .j) (search needs)) ∙ l .inv .2,
+    )
 
 add-result : tie.Need-add-result Inv-loop μ-loop
 add-result c = omega arith

@@ -39,10 +39,12 @@ loop-less c = omega arith
 loop-again : tie.Need-loop-again Inv-loop μ-loop
 loop-again c =
     let l = c .before .before .loop in
-    let a = c .before .before .before .args in
-    (omega arith, simp length-set (omega arith),
-    sym (list-turn (l .out) (a .at) (a .list .now) (l .i) (search needs)) ∙ l .inv .2,
-    one-below (a .list .now) (l .i) (l .inv .3) (omega (arith, c .shared-slice-known .given (l .i))))
+    let a = c .before .before .before .args in (
+      omega arith,
+      simp length-set (omega arith),
+      sym (list-turn (l .out) (a .at) (a .list .now) (l .i) (search needs)) ∙ l .inv .2,
+      one-below (a .list .now) (l .i) (l .inv .3) (omega (arith, c .shared-slice-known .given (l .i))),
+    )
 
 add-result : tie.Need-add-result Inv-loop μ-loop
 add-result c = omega arith

@@ -40,9 +40,12 @@ loop-again c =
     let a = c .before .before .before .before .before .before .before .before .before .args in
     let r = c .before .before .put in
     let e : length (r .last .0) ≡ length (l .out) = r .kept .0 in
-    let f : r .result ≡ l .p + 8 = r .ensures .0 in
-    (omega arith, omega arith, omega arith,
-    rw (r .ensures .1, f) (sym (words-turn (l .out) (l .p) (a .words .now) (l .i) (search needs)) ∙ l .inv .3))
+    let f : r .result ≡ l .p + 8 = r .ensures .0 in (
+      omega arith,
+      omega arith,
+      omega arith,
+      rw (r .ensures .1, f) (sym (words-turn (l .out) (l .p) (a .words .now) (l .i) (search needs)) ∙ l .inv .3),
+    )
 
 same-length : tie.Need-same-length Inv-loop μ-loop
 same-length c = search needs
