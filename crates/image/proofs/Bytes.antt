@@ -2,9 +2,8 @@
 -- Assumes nothing.
 use Prim.Native.Nat.{ℕ, zero, suc, _+_, _*_, _-_, _/_, _%_, _^_, _≤_, _<_}
 use mathlib.Core.Path.{_≡_, refl, sym, ap, _∙_}
-use mathlib.Core.List.{List, [], _∷_, _++_}
+use mathlib.Core.List.{List, [], _∷_}
 use mathlib.Core.Logic.{⊎-elim}
-use native.Mathlib.Numerals.{add-one}
 use native.Mathlib.Omega.{arith}
 use lib.ListN.{length, take, drop, getD, length-append, length-drop}
 use lib.Pow.{pow-mono, pow-add}
@@ -51,7 +50,7 @@ one-below s i h g k l = ⊎-elim (λ e. h k e) (⊎-elim (λ e. rw e g) (λ e. a
 pub length-bytes : (k x : ℕ) → length (bytes k x) ≡ k
 unfolding bytes
 length-bytes zero x = refl
-length-bytes (suc k) x = ap suc (length-bytes k (x / 256))
+length-bytes (suc k) x = ap suc (length-bytes k _)
 
 pub value-bytes : (k x : ℕ) → x < 256 ^ k → value (bytes k x) ≡ x
 unfolding value bytes
@@ -138,7 +137,7 @@ job-law s h u =
     (next s _ 5 (omega arith) (next s _ 6 (omega arith) (next s _ 7 (omega arith) (next s _ 8 (omega arith) (next s _ 9 (omega arith) (next s _ 10 (omega arith)
     (next s _ 11 (omega arith) (next s _ 12 (omega arith) (next s _ 13 (omega arith) (rest s h u))))))))))))))
 
-drop-take : (k m : ℕ) (s : List ℕ) → drop k (take (k + m) s) ≡ take m (drop k s)
+pub drop-take : (k m : ℕ) (s : List ℕ) → drop k (take (k + m) s) ≡ take m (drop k s)
 drop-take zero m s = let e : zero + m ≡ m = omega arith in rw e
 drop-take (suc k) zero [] = let e : suc k + zero ≡ suc (k + zero) = omega arith in rw e
 drop-take (suc k) (suc m) [] = let e : suc k + suc m ≡ suc (k + suc m) = omega arith in rw e

@@ -1,12 +1,11 @@
 -- Reading as a whole: its checks in order, and what sound bytes leave.
 -- Assumes nothing.
-use Prim.Native.Nat.{ℕ, zero, suc, _+_, _*_, _-_, _≤_, _<_}
-use mathlib.Core.Path.{_≡_, refl, sym, ap, ap₂, _∙_}
-use mathlib.Core.Bool.{Bool, true, false, _||_}
-use mathlib.Core.List.{List, [], _∷_, _++_}
-use native.Mathlib.Omega.{arith}
+use Prim.Native.Nat.{ℕ, _+_, _*_, _≤_}
+use mathlib.Core.Path.{_≡_, refl, sym, _∙_}
+use mathlib.Core.Bool.{true, false, _||_}
+use mathlib.Core.List.{List}
 use lib.Dec.{ltb, eqb}
-use lib.ListN.{length, take, drop, getD}
+use lib.ListN.{length, take, drop}
 use lib.Seq.{sets}
 use borrow.Author.Tests.{ltb-false, eq-eqb, ne-eqb}
 use Rattle.laws.specs.Bits.{pick}
@@ -14,7 +13,6 @@ use Rattle.machine.specs.declared.Refusal.{Refusal}
 use Rattle.machine.specs.declared.Refusal.the-variants.{Malformed, NoRoom}
 use Rattle.machine.specs.declared.Check.{Check}
 use Rattle.machine.specs.declared.Check.the-variants.{Passed, Refused}
-use Rattle.machine.specs.Refusals.{_else_, refuse}
 use Rattle.machine.proofs.Checks.{else-passed, not-refused, or-left, or-right}
 use Rattle.jobs.specs.declared.Held.{Held}
 use Rattle.jobs.specs.declared.Held.the-variants.{Nothing, Holds}
@@ -22,7 +20,7 @@ use Rattle.image.specs.declared.Scanned.{Scanned}
 use Rattle.image.specs.declared.Scanned.the-variants.{Sound, Broken}
 use Rattle.image.specs.declared.Read.the-variants as read
 use Rattle.image.specs.Format.{value, jobOf}
-use Rattle.image.specs.Reading.{scanned, stateIn, widthIn, wordsIn, jobsAt, heldIn, numbers}
+use Rattle.image.specs.Reading.{scanned, stateIn, widthIn, wordsIn, heldIn, numbers}
 use Rattle.image.specs.Calls.{refuseBytes, readCheck, readOf, wordsRead, responsesRead}
 use Rattle.image.proofs.Bytes.{length-numbers}
 use Rattle.image.proofs.Scans.{Long, long}

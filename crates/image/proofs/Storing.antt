@@ -1,12 +1,12 @@
 -- Stores, said of what is still to be stored: one turn of each loop, and parts one after the other.
 -- Assumes nothing.
-use Prim.Native.Nat.{ℕ, zero, suc, _+_, _*_, _-_, _/_, _%_, _≤_, _<_}
-use mathlib.Core.Path.{_≡_, refl, sym, ap, ap₂, _∙_}
+use Prim.Native.Nat.{ℕ, suc, _+_, _*_, _-_, _/_, _%_, _<_}
+use mathlib.Core.Path.{_≡_, sym, ap₂, _∙_}
 use mathlib.Core.List.{List, [], _∷_, _++_, append-assoc, append-nil}
 use native.Mathlib.Nat.{suc-add, add-suc, add-zero, zero-add}
 use native.Mathlib.Numerals.{add-one}
 use native.Mathlib.Omega.{arith}
-use lib.ListN.{length, take, drop, getD, set, length-append}
+use lib.ListN.{length, take, drop, getD, set}
 use lib.Seq.{sets, drop-cons, drop-drop, drop-length}
 use Rattle.machine.specs.Machine.{Machine}
 use Rattle.jobs.specs.declared.Job.{Job}
@@ -15,7 +15,7 @@ use Rattle.jobs.specs.declared.Held.the-variants.{Nothing, Holds}
 use Rattle.image.specs.Format.{bytes, value, items, section, jobBytes, heldJobs}
 use Rattle.image.specs.Reading.{numbers}
 use Rattle.image.specs.Parts.{machineBytes}
-use Rattle.image.proofs.Bytes.{AreBytes, under-at, length-bytes, length-items, items-one, value-one}
+use Rattle.image.proofs.Bytes.{under-at, length-bytes, length-items, items-one, value-one}
 
 pub sets-append : (s t d : List ℕ) (i : ℕ) → sets d i (s ++ t) ≡ sets (sets d i s) (i + length s) t
 sets-append [] t d i = rw add-zero

@@ -1,10 +1,9 @@
 -- Writing as a whole: its checks in order, the image's length, and the two parts stored make the image.
 -- Assumes nothing.
-use Prim.Native.Nat.{ℕ, zero, suc, _+_, _*_, _-_, _≤_, _<_}
-use mathlib.Core.Path.{_≡_, refl, sym, ap, ap₂, _∙_}
+use Prim.Native.Nat.{ℕ, _+_, _*_, _≤_, _<_}
+use mathlib.Core.Path.{_≡_, sym, ap, ap₂, _∙_}
 use mathlib.Core.Bool.{Bool, true, false}
-use mathlib.Core.List.{List, [], _∷_, _++_, append-assoc}
-use native.Mathlib.Nat.{zero-add}
+use mathlib.Core.List.{List, [], _++_, append-assoc}
 use native.Mathlib.Omega.{arith}
 use lib.Dec.{ltb}
 use lib.ListN.{length, length-append}
@@ -15,7 +14,7 @@ use Rattle.machine.specs.declared.Refusal.the-variants.{Unfit, NoRoom}
 use Rattle.machine.specs.declared.Check.{Check}
 use Rattle.machine.specs.declared.Check.the-variants.{Passed, Refused}
 use Rattle.machine.specs.Machine.{Machine}
-use Rattle.machine.specs.Refusals.{_else_, refuse, machineCheck}
+use Rattle.machine.specs.Refusals.{refuse, machineCheck}
 use Rattle.machine.proofs.Checks.{sound, size-same, else-passed, not-refused}
 use Rattle.jobs.specs.declared.Held.{Held}
 use Rattle.jobs.specs.declared.Held.the-variants.{Nothing, Holds}
@@ -34,7 +33,7 @@ unfolding items
 length-held Nothing = omega (arith, length-append (bytes 4 0) [], length-bytes 4 0)
 length-held (Holds o) = omega (arith, length-append (bytes 4 1) (jobBytes o ++ []), length-append (jobBytes o) [], length-bytes 4 1, length-job o)
 
-length-machine : (m : Machine) → length (machineBytes m) ≡ 13 + 8 * length (m .words) + length (m .responses)
+pub length-machine : (m : Machine) → length (machineBytes m) ≡ 13 + 8 * length (m .words) + length (m .responses)
 unfolding machineBytes
 length-machine m = simp (length-append, length-bytes, length-items) (omega arith)
 
@@ -45,7 +44,7 @@ whole s = simp append-assoc
 pub length-image : (s : State) → length (imageOf s) ≡ 13 + 8 * length (s .machine .words) + length (s .machine .responses) + (4 + 22 * length (heldJobs (s .held)))
 length-image s = rw (whole s, length-append) (omega (arith, length-machine (s .machine), length-held (s .held)))
 
-same-size : (m : Machine) → machineCheck m ≡ Passed → length (m .responses) ≡ length (m .words)
+pub same-size : (m : Machine) → machineCheck m ≡ Passed → length (m .responses) ≡ length (m .words)
 same-size m h = size-same (length (m .words)) (length (m .responses)) (sound m h .size)
 
 -- ---- the checks, in the code's terms: k and t are what the code found

@@ -1,23 +1,16 @@
-use Prim.Native.Nat.{ℕ, zero, suc, _+_, _-_, _*_, _^_, _≤_, _<_}
-use mathlib.Core.Path.{_≡_, refl, sym, ap, _∙_}
-use native.Mathlib.Omega.{arith}
-use lib.ListN.{take, drop}
+use mathlib.Core.Path.{sym, _∙_}
+use lib.ListN.{drop}
 use lib.Seq.{getD-take, getD-drop}
 use borrow.Author.Needs.{needs}
 use Rattle.image.proofs.fields.byte_at.Statement.{statement}
 use Rattle.image.proofs.fields.byte_at.Tie as tie
-use Rattle.image.proofs.fields.byte_at.Reads as reads
-use Rattle.image.proofs.fields.byte_at.Lts as lts
 
--- src/fields.rt:41:11
 add-result : tie.Need-add-result
 add-result c = search needs
 
--- src/fields.rt:41:5
 shared-slice-read-result : tie.Need-shared-slice-read-result
 shared-slice-read-result c = search needs
 
--- src/fields.rt:37:1
 returns : tie.Need-returns
 returns c =
     let a = c .before .args in

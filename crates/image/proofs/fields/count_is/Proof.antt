@@ -1,29 +1,21 @@
-use Prim.Native.Nat.{ℕ, zero, suc, _+_, _-_, _*_, _^_, _≤_, _<_}
-use mathlib.Core.Path.{_≡_, refl, sym, ap, _∙_}
-use native.Mathlib.Omega.{arith}
+use Prim.Native.Nat.{ℕ}
+use mathlib.Core.Path.{ap}
 use lib.Dec.{eqb}
 use Rattle.image.specs.Reading.{countIs}
 use Rattle.image.proofs.Scans.{holds-cut, holds-read}
 use borrow.Author.Needs.{needs}
 use Rattle.image.proofs.fields.count_is.Statement.{statement}
 use Rattle.image.proofs.fields.count_is.Tie as tie
-use Rattle.image.proofs.fields.count_is.Reads as reads
-use Rattle.image.proofs.fields.count_is.Lts as lts
-use Rattle.image.proofs.fields.number_at.Reads as number-at-reads
 
--- src/fields.rt:96:8
 sub-if1 : tie.Need-sub-if1
 sub-if1 c = search needs
 
--- src/fields.rt:97:9
 returns : tie.Need-returns
 returns c = let a = c .before .before .args in holds-cut (countIs (a .n)) (a .image .now) (a .at) (c .if1 .taken)
 
--- src/fields.rt:99:5
 number-at-requires : tie.Need-number-at-requires
 number-at-requires c κs = search needs
 
--- src/fields.rt:92:1
 returns-2 : tie.Need-returns-2
 returns-2 c =
     let a = c .before .before .before .args in

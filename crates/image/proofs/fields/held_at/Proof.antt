@@ -1,39 +1,28 @@
-use Prim.Native.Nat.{ℕ, zero, suc, _+_, _-_, _*_, _^_, _≤_, _<_}
-use mathlib.Core.Path.{_≡_, refl, sym, ap, _∙_}
-use native.Mathlib.Omega.{arith}
+use Prim.Native.Nat.{_+_}
+use mathlib.Core.Path.{sym, ap, _∙_}
 use lib.ListN.{take, drop}
-use Rattle.jobs.specs.declared.Held.{Held}
 use Rattle.jobs.specs.declared.Held.the-variants.{Nothing, Holds}
 use Rattle.image.specs.Format.{value, jobOf}
 use Rattle.image.proofs.ReadCalls.{zero-picks, other-picks}
 use borrow.Author.Needs.{needs}
 use Rattle.image.proofs.fields.held_at.Statement.{statement}
 use Rattle.image.proofs.fields.held_at.Tie as tie
-use Rattle.image.proofs.fields.held_at.Reads as reads
-use Rattle.image.proofs.fields.held_at.Lts as lts
-use Rattle.image.proofs.fields.job_at.Reads as job-at-reads
-use Rattle.image.proofs.fields.number_at.Reads as number-at-reads
 
--- src/fields.rt:83:8
 number-at-requires : tie.Need-number-at-requires
 number-at-requires c κs = search needs
 
--- src/fields.rt:84:9
 returns : tie.Need-returns
 returns c =
     let a = c .before .before .before .args in
     zero-picks (value (take 4 (drop (a .at) (a .image .now)))) Nothing (Holds (jobOf (take 22 (drop (a .at + 4) (a .image .now)))))
     (sym (c .before .number-at .ensures) ∙ c .if1 .taken)
 
--- src/fields.rt:86:31
 add-job-at : tie.Need-add-job-at
 add-job-at c = search needs
 
--- src/fields.rt:86:17
 job-at-requires : tie.Need-job-at-requires
 job-at-requires c κs = search needs
 
--- src/fields.rt:79:1
 returns-2 : tie.Need-returns-2
 returns-2 c =
     let a = c .before .before .before .before .args in

@@ -1,70 +1,48 @@
-use Prim.Native.Nat.{ℕ, zero, suc, _+_, _-_, _*_, _^_, _≤_, _<_}
-use mathlib.Core.Path.{_≡_, refl, sym, ap, _∙_}
-use native.Mathlib.Omega.{arith}
 use lib.ListN.{take, drop}
 use Rattle.image.proofs.Bytes.{job-tail, made}
 use borrow.Author.Needs.{needs}
 use Rattle.image.proofs.fields.job_at.Statement.{statement}
 use Rattle.image.proofs.fields.job_at.Tie as tie
-use Rattle.image.proofs.fields.job_at.Reads as reads
-use Rattle.image.proofs.fields.job_at.Lts as lts
-use Rattle.image.proofs.fields.byte_at.Reads as byte-at-reads
-use Rattle.image.proofs.fields.number_at.Reads as number-at-reads
-use Rattle.image.proofs.fields.span_at.Reads as span-at-reads
 
--- src/fields.rt:59:9
 span-at-requires : tie.Need-span-at-requires
 span-at-requires c κs = search needs
 
--- src/fields.rt:60:9
 span-at-requires-2 : tie.Need-span-at-requires-2
 span-at-requires-2 c κs = search needs
 
--- src/fields.rt:61:9
 span-at-requires-3 : tie.Need-span-at-requires-3
 span-at-requires-3 c κs = search needs
 
--- src/fields.rt:63:15
 byte-at-requires : tie.Need-byte-at-requires
 byte-at-requires c κs = search needs
 
--- src/fields.rt:64:14
 byte-at-requires-2 : tie.Need-byte-at-requires-2
 byte-at-requires-2 c κs = search needs
 
--- src/fields.rt:65:15
 byte-at-requires-3 : tie.Need-byte-at-requires-3
 byte-at-requires-3 c κs = search needs
 
--- src/fields.rt:66:12
 byte-at-requires-4 : tie.Need-byte-at-requires-4
 byte-at-requires-4 c κs = search needs
 
--- src/fields.rt:67:12
 byte-at-requires-5 : tie.Need-byte-at-requires-5
 byte-at-requires-5 c κs = search needs
 
--- src/fields.rt:71:16
 byte-at-requires-6 : tie.Need-byte-at-requires-6
 byte-at-requires-6 c κs = search needs
 
--- src/fields.rt:72:12
 byte-at-requires-7 : tie.Need-byte-at-requires-7
 byte-at-requires-7 c κs = search needs
 
--- src/fields.rt:73:12
 byte-at-requires-8 : tie.Need-byte-at-requires-8
 byte-at-requires-8 c κs = search needs
 
--- src/fields.rt:74:29
 add-number-at : tie.Need-add-number-at
 add-number-at c = search needs
 
--- src/fields.rt:74:12
 number-at-requires : tie.Need-number-at-requires
 number-at-requires c κs = search needs
 
--- src/fields.rt:55:1
 returns : tie.Need-returns
 returns c =
     let a = c .before .before .before .before .before .before .before .before .before .before .before .before .before .args in

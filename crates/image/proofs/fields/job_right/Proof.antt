@@ -1,6 +1,4 @@
-use Prim.Native.Nat.{ℕ, zero, suc, _+_, _-_, _*_, _^_, _≤_, _<_}
-use mathlib.Core.Path.{_≡_, refl, sym, ap, _∙_}
-use native.Mathlib.Omega.{arith}
+use mathlib.Core.Path.{ap, _∙_}
 use mathlib.Core.Bool.{not}
 use Rattle.jobs.specs.Places.{badHeld}
 use Rattle.image.specs.Reading.{jobField}
@@ -8,28 +6,19 @@ use Rattle.image.proofs.Scans.{holds-cut, holds-read}
 use borrow.Author.Needs.{needs}
 use Rattle.image.proofs.fields.job_right.Statement.{statement}
 use Rattle.image.proofs.fields.job_right.Tie as tie
-use Rattle.image.proofs.fields.job_right.Reads as reads
-use Rattle.image.proofs.fields.job_right.Lts as lts
-use Rattle.image.proofs.fields.job_at.Reads as job-at-reads
-use Rattle.jobs.proofs.bad_held.Reads as bad-held-reads
 
--- src/fields.rt:149:8
 sub-if1 : tie.Need-sub-if1
 sub-if1 c = search needs
 
--- src/fields.rt:150:9
 returns : tie.Need-returns
 returns c = let a = c .before .before .args in holds-cut (jobField (a .width)) (a .image .now) (a .at) (c .if1 .taken)
 
--- src/fields.rt:152:28
 job-at-requires : tie.Need-job-at-requires
 job-at-requires c κs = search needs
 
--- src/fields.rt:152:6
 bad-held-requires : tie.Need-bad-held-requires
 bad-held-requires c κs = search needs
 
--- src/fields.rt:145:1
 returns-2 : tie.Need-returns-2
 returns-2 c =
     let a = c .before .before .before .before .args in

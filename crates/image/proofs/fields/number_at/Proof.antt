@@ -1,5 +1,5 @@
-use Prim.Native.Nat.{ℕ, zero, suc, _+_, _-_, _*_, _^_, _≤_, _<_}
-use mathlib.Core.Path.{_≡_, refl, sym, ap, _∙_}
+use Prim.Native.Nat.{_+_, _-_, _*_, _^_, _≤_, _<_}
+use mathlib.Core.Path.{_≡_, sym}
 use native.Mathlib.Omega.{arith}
 use native.Mathlib.Nat.{add-zero, sub-zero}
 use lib.ListN.{take, drop}
@@ -8,8 +8,6 @@ use Rattle.image.specs.Format.{value}
 use Rattle.image.proofs.Bytes.{value-none, value-down, pow-down, pow-room}
 use Rattle.image.proofs.fields.number_at.Statement.{statement}
 use Rattle.image.proofs.fields.number_at.Tie as tie
-use Rattle.image.proofs.fields.number_at.Reads as reads
-use Rattle.image.proofs.fields.number_at.Lts as lts
 
 abbrev Inv-loop : tie.InvT-loop
 Inv-loop image at k r₀ i₀ r i = (i ≤ k) × (r ≡ value (take (k - i) (drop (at + i) image))) × (r < 2 ^ (8 * (k - i)))
@@ -17,42 +15,33 @@ Inv-loop image at k r₀ i₀ r i = (i ≤ k) × (r ≡ value (take (k - i) (dro
 abbrev μ-loop : tie.MeasureT-loop
 μ-loop image at k r₀ i₀ r i = i
 
--- src/fields.rt:30:5
 loop-holds : tie.Need-loop-holds Inv-loop μ-loop
 loop-holds c = (omega arith, value-none (c .args .k) _, pow-pos _)
 
--- src/fields.rt:31:9
 sub-i : tie.Need-sub-i Inv-loop μ-loop
 sub-i c = omega arith
 
--- src/fields.rt:32:13
 mul-r : tie.Need-mul-r Inv-loop μ-loop
 mul-r c = let l = c .before .loop in let a = c .before .before .args in omega (arith, pow-room (a .k) (l .i) (omega arith) (omega arith))
 
--- src/fields.rt:32:29
 add-r : tie.Need-add-r Inv-loop μ-loop
 add-r c = omega arith
 
--- src/fields.rt:32:23
 shared-slice-read-r : tie.Need-shared-slice-read-r Inv-loop μ-loop
 shared-slice-read-r c = omega arith
 
--- src/fields.rt:32:23
 cast-r : tie.Need-cast-r Inv-loop μ-loop
 cast-r c = let l = c .before .before .loop in let a = c .before .before .before .args in omega (arith, c .shared-slice-known .given (a .at + (l .i - 1)))
 
--- src/fields.rt:32:13
 add-r-2 : tie.Need-add-r-2 Inv-loop μ-loop
 add-r-2 c =
     let l = c .before .before .loop in
     let a = c .before .before .before .args in
     omega (arith, c .shared-slice-known .given (a .at + (l .i - 1)), pow-room (a .k) (l .i) (omega arith) (omega arith))
 
--- src/fields.rt:30:5
 loop-less : tie.Need-loop-less Inv-loop μ-loop
 loop-less c = omega arith
 
--- src/fields.rt:30:5
 loop-again : tie.Need-loop-again Inv-loop μ-loop
 loop-again c =
     let l = c .before .before .loop in
@@ -62,7 +51,6 @@ loop-again c =
       omega (arith, c .shared-slice-known .given (a .at + (l .i - 1)), pow-down (a .k) (l .i) (omega arith) (omega arith)),
     )
 
--- src/fields.rt:24:1
 returns : tie.Need-returns Inv-loop μ-loop
 returns c =
     let l = c .before .loop in

@@ -1,17 +1,11 @@
-use Prim.Native.Nat.{ℕ, zero, suc, _+_, _-_, _*_, _^_, _≤_, _<_}
-use mathlib.Core.Path.{_≡_, refl, sym, ap, _∙_}
-use native.Mathlib.Omega.{arith}
+use mathlib.Core.Path.{sym}
 use Rattle.image.proofs.Scans.{too-many, all-read}
 use Rattle.image.proofs.fields.scan_end.Statement.{statement}
 use Rattle.image.proofs.fields.scan_end.Tie as tie
-use Rattle.image.proofs.fields.scan_end.Reads as reads
-use Rattle.image.proofs.fields.scan_end.Lts as lts
 
--- src/fields.rt:163:9
 returns : tie.Need-returns
 returns c = let a = c .before .args in sym (too-many (a .image .now) (a .at) (c .if1 .taken))
 
--- src/fields.rt:158:1
 returns-2 : tie.Need-returns-2
 returns-2 c = let a = c .before .args in sym (all-read (a .image .now) (a .at) (c .if1 .left))
 

@@ -1,49 +1,33 @@
-use Prim.Native.Nat.{ℕ, zero, suc, _+_, _-_, _*_, _^_, _≤_, _<_}
-use mathlib.Core.Path.{_≡_, refl, sym, ap, _∙_}
+use Prim.Native.Nat.{_≤_}
+use mathlib.Core.Path.{sym, _∙_}
 use native.Mathlib.Omega.{arith}
-use lib.ListN.{length, take, drop}
 use borrow.Author.Tests.{not-true, not-false}
 use Rattle.image.specs.Reading.{countIs, widthByte}
 use Rattle.image.proofs.Scans.{held, head-count, head-width, head-words, head, words-broken, words-sound}
 use borrow.Author.Needs.{needs}
 use Rattle.image.proofs.fields.scan_image.Statement.{statement}
 use Rattle.image.proofs.fields.scan_image.Tie as tie
-use Rattle.image.proofs.fields.scan_image.Reads as reads
-use Rattle.image.proofs.fields.scan_image.Lts as lts
-use Rattle.image.proofs.fields.count_is.Reads as count-is-reads
-use Rattle.image.proofs.fields.number_at.Reads as number-at-reads
-use Rattle.image.proofs.fields.scan_responses.Reads as scan-responses-reads
-use Rattle.image.proofs.fields.scan_words.Reads as scan-words-reads
-use Rattle.image.proofs.fields.width_right.Reads as width-right-reads
-use Rattle.image.proofs.fields.word_count_right.Reads as word-count-right-reads
 
--- src/fields.rt:217:9
 count-is-requires : tie.Need-count-is-requires
 count-is-requires c κs = search needs
 
--- src/fields.rt:218:9
 returns : tie.Need-returns
 returns c = head-count (c .before .before .before .args .image .now) (sym (c .before .count-is .ensures) ∙ not-true _ (c .if1 .taken))
 
--- src/fields.rt:220:9
 width-right-requires : tie.Need-width-right-requires
 width-right-requires c κs = held (countIs 1) (c .before .before .before .args .image .now) 0 (omega arith) (sym (c .before .count-is .ensures) ∙ not-false _ (c .if1 .left)) .fits
 
--- src/fields.rt:221:9
 returns-2 : tie.Need-returns-2
 returns-2 c = head-width (c .before .before .before .before .before .args .image .now) (sym (c .before .before .before .count-is .ensures) ∙ not-false _ (c .before .before .if1 .left)) (sym (c .before .width-right .ensures) ∙ not-true _ (c .if2 .taken))
 
--- src/fields.rt:223:9
 word-count-right-requires : tie.Need-word-count-right-requires
 word-count-right-requires c κs =
     let b = c .before .before .before .before .before .args .image .now in
     held widthByte b 4 (held (countIs 1) b 0 (omega arith) (sym (c .before .before .before .count-is .ensures) ∙ not-false _ (c .before .before .if1 .left)) .fits) (sym (c .before .width-right .ensures) ∙ not-false _ (c .if2 .left)) .fits
 
--- src/fields.rt:224:9
 returns-3 : tie.Need-returns-3
 returns-3 c = head-words (c .before .before .before .before .before .before .before .args .image .now) (sym (c .before .before .before .before .before .count-is .ensures) ∙ not-false _ (c .before .before .before .before .if1 .left)) (sym (c .before .before .before .width-right .ensures) ∙ not-false _ (c .before .before .if2 .left)) (sym (c .before .word-count-right .ensures) ∙ not-true _ (c .if3 .taken))
 
--- src/fields.rt:226:17
 shared-slice-read-width : tie.Need-shared-slice-read-width
 shared-slice-read-width c =
     let a = c .before .before .before .before .before .before .before .before .args in
@@ -52,11 +36,9 @@ shared-slice-read-width c =
     (sym (c .before .before .word-count-right .ensures) ∙ not-false _ (c .before .if3 .left))) in
     omega (arith, h .fits)
 
--- src/fields.rt:226:17
 cast-width : tie.Need-cast-width
 cast-width c = omega (arith, c .shared-slice-known2 .given 4)
 
--- src/fields.rt:227:13
 number-at-requires : tie.Need-number-at-requires
 number-at-requires c κs =
     let a = c .before .before .before .before .before .before .before .before .args in
@@ -65,7 +47,6 @@ number-at-requires c κs =
     (sym (c .before .before .word-count-right .ensures) ∙ not-false _ (c .before .if3 .left))) in
     (h .fits, omega arith)
 
--- src/fields.rt:228:9
 scan-words-requires : tie.Need-scan-words-requires
 scan-words-requires c κs =
     let a = c .before .before .before .before .before .before .before .before .before .args in
@@ -74,15 +55,12 @@ scan-words-requires c κs =
     (sym (c .before .before .before .word-count-right .ensures) ∙ not-false _ (c .before .before .if3 .left))) in
     (h .fits, omega (arith, h .few, c .number-at .ensures))
 
--- src/fields.rt:230:25
 enum-known-words : tie.Need-enum-known-words
 enum-known-words c = search needs
 
--- src/fields.rt:231:27
 enum-told : tie.Need-enum-told
 enum-told c = search needs
 
--- src/fields.rt:231:27
 scan-responses-requires : tie.Need-scan-responses-requires
 scan-responses-requires c κs =
     let a = c .before .before .before .before .before .before .before .before .before .before .before .before .args in
@@ -92,7 +70,6 @@ scan-responses-requires c κs =
     let e : c .before .before .before .number-at .result ≤ 1024 = omega (arith, h .few, c .before .before .before .number-at .ensures) in
     (c .before .before .scan-words .ensures .1 (c .enum-told .given .1), e)
 
--- src/fields.rt:214:1
 returns-4 : tie.Need-returns-4
 returns-4 c =
     let a = c .before .before .before .before .before .before .before .before .before .before .before .before .before .args in
@@ -102,7 +79,6 @@ returns-4 c =
     words-broken (a .image .now) (c .before .before .before .before .number-at .result) _ (c .before .before .before .scan-words .result) h (c .before .before .before .before .number-at .ensures)
     (c .before .before .before .scan-words .ensures .0) (c .before .words .given .1)
 
--- src/fields.rt:214:1
 returns-5 : tie.Need-returns-5
 returns-5 c =
     let a = c .before .before .before .before .before .before .before .before .before .before .before .before .before .args in

@@ -1,18 +1,14 @@
-use Prim.Native.Nat.{ℕ, zero, suc, _+_, _-_, _*_, _^_, _≤_, _<_}
-use mathlib.Core.Path.{_≡_, refl, sym, ap, _∙_}
+use Prim.Native.Nat.{ℕ, _+_, _-_, _*_, _≤_}
+use mathlib.Core.Path.{_≡_, sym, _∙_}
 use native.Mathlib.Omega.{arith}
-use lib.ListN.{length, take, drop, replicate}
+use lib.ListN.{length, drop, replicate}
 use borrow.Author.Tests.{not-true, not-false}
 use mathlib.Core.List.{List, _++_}
 use native.Mathlib.Nat.{sub-zero}
-use borrow.Author.Needs.{needs}
 use Rattle.image.specs.Reading.{Field, scan, wordField}
 use Rattle.image.proofs.Scans.{held, field-wrong, one-more, no-more, word-step}
 use Rattle.image.proofs.fields.scan_words.Statement.{statement}
 use Rattle.image.proofs.fields.scan_words.Tie as tie
-use Rattle.image.proofs.fields.scan_words.Reads as reads
-use Rattle.image.proofs.fields.scan_words.Lts as lts
-use Rattle.image.proofs.fields.word_right.Reads as word-right-reads
 
 abbrev Inv-loop : tie.InvT-loop
 Inv-loop image width n i₀ i =
@@ -22,23 +18,18 @@ Inv-loop image width n i₀ i =
 abbrev μ-loop : tie.MeasureT-loop
 μ-loop image width n i₀ i = n - i
 
--- src/fields.rt:204:5
 loop-holds : tie.Need-loop-holds Inv-loop μ-loop
 loop-holds c = (omega arith, omega arith, λ fs. rw sub-zero)
 
--- src/fields.rt:205:22
 mul-at : tie.Need-mul-at Inv-loop μ-loop
 mul-at c = omega arith
 
--- src/fields.rt:205:18
 add-at : tie.Need-add-at Inv-loop μ-loop
 add-at c = omega arith
 
--- src/fields.rt:206:13
 word-right-requires : tie.Need-word-right-requires Inv-loop μ-loop
 word-right-requires c κs = omega arith
 
--- src/fields.rt:207:13
 returns : tie.Need-returns Inv-loop μ-loop
 returns c =
     let l = c .before .before .before .loop in
@@ -48,15 +39,12 @@ returns c =
       λ z. absurd (let q : _≡_ {A = ℕ} 0 1 = cc in omega arith),
     )
 
--- src/fields.rt:209:9
 add-i : tie.Need-add-i Inv-loop μ-loop
 add-i c = omega arith
 
--- src/fields.rt:204:5
 loop-less : tie.Need-loop-less Inv-loop μ-loop
 loop-less c = omega arith
 
--- src/fields.rt:204:5
 loop-again : tie.Need-loop-again Inv-loop μ-loop
 loop-again c =
     let l = c .before .before .before .loop in
@@ -68,7 +56,6 @@ loop-again c =
       λ fs. l .inv .2 fs ∙ rw (one-more (a .n) (l .i) (wordField (a .width)) fs (omega arith)) (word-step (a .width) (l .i) (a .image .now) _ h),
     )
 
--- src/fields.rt:199:1
 returns-2 : tie.Need-returns-2 Inv-loop μ-loop
 returns-2 c =
     let l = c .before .loop in

@@ -1,23 +1,16 @@
 use borrow.Author.Needs.{needs}
 use Rattle.image.proofs.fields.span_at.Statement.{statement}
 use Rattle.image.proofs.fields.span_at.Tie as tie
-use Rattle.image.proofs.fields.span_at.Reads as reads
-use Rattle.image.proofs.fields.span_at.Lts as lts
-use Rattle.image.proofs.fields.byte_at.Reads as byte-at-reads
 
--- src/fields.rt:49:23
 byte-at-requires : tie.Need-byte-at-requires
 byte-at-requires c κs = search needs
 
--- src/fields.rt:50:35
 add-byte-at : tie.Need-add-byte-at
 add-byte-at c = search needs
 
--- src/fields.rt:50:16
 byte-at-requires-2 : tie.Need-byte-at-requires-2
 byte-at-requires-2 c κs = search needs
 
--- src/fields.rt:44:1
 returns : tie.Need-returns
 returns c = cc
 

@@ -1,5 +1,4 @@
-use Prim.Native.Nat.{ℕ, zero, suc, _+_, _-_, _*_, _^_, _≤_, _<_}
-use mathlib.Core.Path.{_≡_, refl, sym, ap, _∙_}
+use mathlib.Core.Path.{sym, ap, _∙_}
 use native.Mathlib.Omega.{arith}
 use Rattle.image.specs.Reading.{widthByte}
 use Rattle.image.proofs.Scans.{holds-cut, holds-read}
@@ -9,31 +8,22 @@ use mathlib.Core.Bool.{not}
 use borrow.Author.Needs.{needs}
 use Rattle.image.proofs.fields.width_right.Statement.{statement}
 use Rattle.image.proofs.fields.width_right.Tie as tie
-use Rattle.image.proofs.fields.width_right.Reads as reads
-use Rattle.image.proofs.fields.width_right.Lts as lts
-use Rattle.machine.proofs.bad_width.Reads as bad-width-reads
 
--- src/fields.rt:106:8
 sub-if1 : tie.Need-sub-if1
 sub-if1 c = search needs
 
--- src/fields.rt:107:9
 returns : tie.Need-returns
 returns c = holds-cut widthByte (c .before .before .args .image .now) 4 (c .if1 .taken)
 
--- src/fields.rt:109:25
 shared-slice-read-bad-width : tie.Need-shared-slice-read-bad-width
 shared-slice-read-bad-width c = search needs
 
--- src/fields.rt:109:25
 cast-bad-width : tie.Need-cast-bad-width
 cast-bad-width c = omega (arith, c .shared-slice-known2 .given 4)
 
--- src/fields.rt:109:6
 bad-width-requires : tie.Need-bad-width-requires
 bad-width-requires c κs = search needs
 
--- src/fields.rt:102:1
 returns-2 : tie.Need-returns-2
 returns-2 c =
     let b = c .before .before .before .before .args .image .now in

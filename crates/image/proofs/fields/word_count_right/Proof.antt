@@ -1,6 +1,5 @@
-use Prim.Native.Nat.{ℕ, zero, suc, _+_, _-_, _*_, _^_, _≤_, _<_}
-use mathlib.Core.Path.{_≡_, refl, sym, ap, _∙_}
-use native.Mathlib.Omega.{arith}
+use Prim.Native.Nat.{ℕ}
+use mathlib.Core.Path.{ap}
 use mathlib.Core.Bool.{_&&_}
 use lib.Dec.{leb}
 use Rattle.image.specs.Reading.{wordCount}
@@ -8,23 +7,16 @@ use Rattle.image.proofs.Scans.{holds-cut, holds-read}
 use borrow.Author.Needs.{needs}
 use Rattle.image.proofs.fields.word_count_right.Statement.{statement}
 use Rattle.image.proofs.fields.word_count_right.Tie as tie
-use Rattle.image.proofs.fields.word_count_right.Reads as reads
-use Rattle.image.proofs.fields.word_count_right.Lts as lts
-use Rattle.image.proofs.fields.number_at.Reads as number-at-reads
 
--- src/fields.rt:116:8
 sub-if1 : tie.Need-sub-if1
 sub-if1 c = search needs
 
--- src/fields.rt:117:9
 returns : tie.Need-returns
 returns c = holds-cut wordCount (c .before .before .args .image .now) 5 (c .if1 .taken)
 
--- src/fields.rt:119:9
 number-at-requires : tie.Need-number-at-requires
 number-at-requires c κs = search needs
 
--- src/fields.rt:112:1
 returns-2 : tie.Need-returns-2
 returns-2 c =
     holds-read wordCount (c .before .before .before .args .image .now) 5 _ (c .before .if1 .left) (ap (λ (v : ℕ). leb 1 v && leb v 1024) (c .number-at .ensures))

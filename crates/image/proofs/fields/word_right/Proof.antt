@@ -1,6 +1,4 @@
-use Prim.Native.Nat.{ℕ, zero, suc, _+_, _-_, _*_, _^_, _≤_, _<_}
-use mathlib.Core.Path.{_≡_, refl, sym, ap, _∙_}
-use native.Mathlib.Omega.{arith}
+use mathlib.Core.Path.{ap, _∙_}
 use mathlib.Core.Bool.{not}
 use Rattle.machine.specs.Refusals.{tooWide}
 use Rattle.image.specs.Reading.{wordField}
@@ -8,28 +6,19 @@ use Rattle.image.proofs.Scans.{holds-cut, holds-read}
 use borrow.Author.Needs.{needs}
 use Rattle.image.proofs.fields.word_right.Statement.{statement}
 use Rattle.image.proofs.fields.word_right.Tie as tie
-use Rattle.image.proofs.fields.word_right.Reads as reads
-use Rattle.image.proofs.fields.word_right.Lts as lts
-use Rattle.image.proofs.fields.number_at.Reads as number-at-reads
-use Rattle.machine.proofs.too_wide.Reads as too-wide-reads
 
--- src/fields.rt:127:8
 sub-if1 : tie.Need-sub-if1
 sub-if1 c = search needs
 
--- src/fields.rt:128:9
 returns : tie.Need-returns
 returns c = let a = c .before .before .args in holds-cut (wordField (a .width)) (a .image .now) (a .at) (c .if1 .taken)
 
--- src/fields.rt:130:31
 number-at-requires : tie.Need-number-at-requires
 number-at-requires c κs = search needs
 
--- src/fields.rt:130:6
 too-wide-requires : tie.Need-too-wide-requires
 too-wide-requires c κs = search needs
 
--- src/fields.rt:123:1
 returns-2 : tie.Need-returns-2
 returns-2 c =
     let a = c .before .before .before .before .args in

@@ -1,48 +1,36 @@
-use Prim.Native.Nat.{ℕ, zero, suc, _+_, _-_, _*_, _^_, _≤_, _<_}
-use mathlib.Core.Path.{_≡_, refl, sym, ap, _∙_}
+use mathlib.Core.Path.{sym, _∙_}
 use native.Mathlib.Omega.{arith}
-use Rattle.image.proofs.Scans.{Long, long}
+use Rattle.image.proofs.Scans.{long}
 use Rattle.image.proofs.ReadCalls.{read-broken, read-short, read-passed}
 use borrow.Author.Needs.{needs}
 use Rattle.image.proofs.reading.check_read.Statement.{statement}
 use Rattle.image.proofs.reading.check_read.Tie as tie
-use Rattle.image.proofs.reading.check_read.Reads as reads
-use Rattle.image.proofs.reading.check_read.Lts as lts
-use Rattle.image.proofs.fields.number_at.Reads as number-at-reads
-use Rattle.image.proofs.fields.scan_image.Reads as scan-image-reads
 
--- src/reading.rt:19:9
 scan-image-requires : tie.Need-scan-image-requires
 scan-image-requires c κs = search needs
 
--- src/reading.rt:21:25
 enum-known-found : tie.Need-enum-known-found
 enum-known-found c = search needs
 
--- src/reading.rt:23:21
 enum-told : tie.Need-enum-told
 enum-told c = search needs
 
--- src/reading.rt:23:21
 number-at-requires : tie.Need-number-at-requires
 number-at-requires c κs =
     let b = c .before .before .before .before .args .image .now in
     let g = long b (sym (c .before .before .scan-image .ensures) ∙ c .enum-told .given .1) in
     omega (arith, g .room)
 
--- src/reading.rt:25:17
 returns : tie.Need-returns
 returns c =
     let a = c .before .before .before .before .before .before .args in
     read-short (a .image .now) (a .words) (a .responses) (c .before .number-at .result) _ (c .before .before .before .before .scan-image .ensures) (c .before .before .enum-told .given .1) (c .before .number-at .ensures) (c .if1 .taken)
 
--- src/reading.rt:16:1
 returns-2 : tie.Need-returns-2
 returns-2 c =
     let a = c .before .before .before .before .before .args in
     read-broken (a .image .now) (a .words) (a .responses) _ _ (c .before .before .before .scan-image .ensures) (c .before .found .given .1)
 
--- src/reading.rt:16:1
 returns-3 : tie.Need-returns-3
 returns-3 c =
     let a = c .before .before .before .before .before .before .args in

@@ -1,5 +1,5 @@
-use Prim.Native.Nat.{ℕ, zero, suc, _+_, _-_, _*_, _^_, _≤_, _<_}
-use mathlib.Core.Path.{_≡_, refl, sym, ap, _∙_}
+use Prim.Native.Nat.{_+_, _-_, _≤_}
+use mathlib.Core.Path.{_≡_, refl, sym, _∙_}
 use native.Mathlib.Omega.{arith}
 use native.Mathlib.Nat.{add-zero, sub-zero}
 use lib.ListN.{length, drop, length-set}
@@ -9,8 +9,6 @@ use Rattle.image.specs.Reading.{numbers}
 use Rattle.image.proofs.Storing.{fill-bytes-turn, fill-none}
 use Rattle.image.proofs.reading.fill_responses.Statement.{statement}
 use Rattle.image.proofs.reading.fill_responses.Tie as tie
-use Rattle.image.proofs.reading.fill_responses.Reads as reads
-use Rattle.image.proofs.reading.fill_responses.Lts as lts
 
 abbrev Inv-loop : tie.InvT-loop
 Inv-loop image at responses₀ n i₀ responses i =
@@ -20,31 +18,24 @@ Inv-loop image at responses₀ n i₀ responses i =
 abbrev μ-loop : tie.MeasureT-loop
 μ-loop image at responses₀ n i₀ responses i = n - i
 
--- src/reading.rt:48:5
 loop-holds : tie.Need-loop-holds Inv-loop μ-loop
 loop-holds c = (omega arith, refl, rw (sub-zero, add-zero))
 
--- src/reading.rt:49:30
 add-responses : tie.Need-add-responses Inv-loop μ-loop
 add-responses c = omega arith
 
--- src/reading.rt:49:24
 shared-slice-read-responses : tie.Need-shared-slice-read-responses Inv-loop μ-loop
 shared-slice-read-responses c = omega arith
 
--- src/reading.rt:49:9
 slice-write-responses : tie.Need-slice-write-responses Inv-loop μ-loop
 slice-write-responses c = omega arith
 
--- src/reading.rt:50:9
 add-i : tie.Need-add-i Inv-loop μ-loop
 add-i c = omega arith
 
--- src/reading.rt:48:5
 loop-less : tie.Need-loop-less Inv-loop μ-loop
 loop-less c = omega arith
 
--- src/reading.rt:48:5
 loop-again : tie.Need-loop-again Inv-loop μ-loop
 loop-again c =
     let l = c .before .before .loop in
@@ -54,11 +45,9 @@ loop-again c =
       sym (fill-bytes-turn (l .responses) (a .image .now) (a .at) (l .i) (a .n) (omega arith) (omega arith)) ∙ l .inv .2,
     )
 
--- src/reading.rt:43:1
 same-length : tie.Need-same-length Inv-loop μ-loop
 same-length c = search needs
 
--- src/reading.rt:43:1
 returns : tie.Need-returns Inv-loop μ-loop
 returns c =
     let l = c .before .loop in

@@ -1,5 +1,5 @@
-use Prim.Native.Nat.{ℕ, zero, suc, _+_, _-_, _*_, _^_, _≤_, _<_}
-use mathlib.Core.Path.{_≡_, refl, sym, ap, _∙_}
+use Prim.Native.Nat.{_+_, _-_, _*_, _≤_}
+use mathlib.Core.Path.{_≡_, refl, sym, _∙_}
 use native.Mathlib.Omega.{arith}
 use native.Mathlib.Nat.{sub-zero}
 use lib.ListN.{length, drop, length-set}
@@ -9,9 +9,6 @@ use Rattle.image.specs.Reading.{numbers}
 use Rattle.image.proofs.Storing.{fill-words-turn, fill-none}
 use Rattle.image.proofs.reading.fill_words.Statement.{statement}
 use Rattle.image.proofs.reading.fill_words.Tie as tie
-use Rattle.image.proofs.reading.fill_words.Reads as reads
-use Rattle.image.proofs.reading.fill_words.Lts as lts
-use Rattle.image.proofs.fields.number_at.Reads as number-at-reads
 
 abbrev Inv-loop : tie.InvT-loop
 Inv-loop image words₀ n i₀ words i =
@@ -21,39 +18,30 @@ Inv-loop image words₀ n i₀ words i =
 abbrev μ-loop : tie.MeasureT-loop
 μ-loop image words₀ n i₀ words i = n - i
 
--- src/reading.rt:37:5
 loop-holds : tie.Need-loop-holds Inv-loop μ-loop
 loop-holds c = (omega arith, refl, rw sub-zero)
 
--- src/reading.rt:38:49
 mul-number-at : tie.Need-mul-number-at Inv-loop μ-loop
 mul-number-at c = omega arith
 
--- src/reading.rt:38:45
 add-number-at : tie.Need-add-number-at Inv-loop μ-loop
 add-number-at c = omega arith
 
--- src/reading.rt:38:20
 number-at-requires : tie.Need-number-at-requires Inv-loop μ-loop
 number-at-requires c κs = omega arith
 
--- src/reading.rt:38:9
 mul-words : tie.Need-mul-words Inv-loop μ-loop
 mul-words c = omega arith
 
--- src/reading.rt:38:9
 slice-write-words : tie.Need-slice-write-words Inv-loop μ-loop
 slice-write-words c = omega arith
 
--- src/reading.rt:39:9
 add-i : tie.Need-add-i Inv-loop μ-loop
 add-i c = omega arith
 
--- src/reading.rt:37:5
 loop-less : tie.Need-loop-less Inv-loop μ-loop
 loop-less c = omega arith
 
--- src/reading.rt:37:5
 loop-again : tie.Need-loop-again Inv-loop μ-loop
 loop-again c =
     let l = c .before .before .loop in
@@ -63,11 +51,9 @@ loop-again c =
       rw (c .number-at .ensures) (sym (fill-words-turn (l .words) (a .image .now) (l .i) (a .n) (omega arith)) ∙ l .inv .2),
     )
 
--- src/reading.rt:32:1
 same-length : tie.Need-same-length Inv-loop μ-loop
 same-length c = search needs
 
--- src/reading.rt:32:1
 returns : tie.Need-returns Inv-loop μ-loop
 returns c =
     let l = c .before .loop in

@@ -1,5 +1,5 @@
-use Prim.Native.Nat.{ℕ, zero, suc, _+_, _-_, _*_, _^_, _≤_, _<_}
-use mathlib.Core.Path.{_≡_, refl, sym, ap, _∙_}
+use Prim.Native.Nat.{_+_, _-_, _≤_}
+use mathlib.Core.Path.{_≡_, refl, sym, _∙_}
 use native.Mathlib.Omega.{arith}
 use native.Mathlib.Nat.{add-zero, sub-zero}
 use borrow.Author.Needs.{needs}
@@ -9,8 +9,6 @@ use Rattle.image.specs.Format.{bytes}
 use Rattle.image.proofs.Storing.{put-none, put-turn}
 use Rattle.image.proofs.stores.put.Statement.{statement}
 use Rattle.image.proofs.stores.put.Tie as tie
-use Rattle.image.proofs.stores.put.Reads as reads
-use Rattle.image.proofs.stores.put.Lts as lts
 
 abbrev Inv-loop : tie.InvT-loop
 Inv-loop out₀ at k x y₀ j₀ out y j = (j ≤ k) × (length out ≡ length out₀) × (sets out (at + j) (bytes (k - j) y) ≡ sets out₀ at (bytes k x))
@@ -18,31 +16,24 @@ Inv-loop out₀ at k x y₀ j₀ out y j = (j ≤ k) × (length out ≡ length o
 abbrev μ-loop : tie.MeasureT-loop
 μ-loop out₀ at k x y₀ j₀ out y j = k - j
 
--- src/stores.rt:21:5
 loop-holds : tie.Need-loop-holds Inv-loop μ-loop
 loop-holds c = (omega arith, refl, rw (add-zero, sub-zero))
 
--- src/stores.rt:22:23
 cast-out : tie.Need-cast-out Inv-loop μ-loop
 cast-out c = omega arith
 
--- src/stores.rt:22:13
 add-out : tie.Need-add-out Inv-loop μ-loop
 add-out c = omega arith
 
--- src/stores.rt:22:9
 slice-write-out : tie.Need-slice-write-out Inv-loop μ-loop
 slice-write-out c = omega arith
 
--- src/stores.rt:24:9
 add-j : tie.Need-add-j Inv-loop μ-loop
 add-j c = omega arith
 
--- src/stores.rt:21:5
 loop-less : tie.Need-loop-less Inv-loop μ-loop
 loop-less c = omega arith
 
--- src/stores.rt:21:5
 loop-again : tie.Need-loop-again Inv-loop μ-loop
 loop-again c =
     let l = c .before .loop in
@@ -52,15 +43,12 @@ loop-again c =
       sym (put-turn (l .out) (a .at) (a .k) (l .y) (l .j) (search needs)) ∙ l .inv .2,
     )
 
--- src/stores.rt:26:5
 add-result : tie.Need-add-result Inv-loop μ-loop
 add-result c = omega arith
 
--- src/stores.rt:15:1
 same-length : tie.Need-same-length Inv-loop μ-loop
 same-length c = search needs
 
--- src/stores.rt:15:1
 returns : tie.Need-returns Inv-loop μ-loop
 returns c =
     let a = c .before .before .args in

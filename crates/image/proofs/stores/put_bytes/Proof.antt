@@ -1,5 +1,5 @@
-use Prim.Native.Nat.{ℕ, zero, suc, _+_, _-_, _*_, _^_, _≤_, _<_}
-use mathlib.Core.Path.{_≡_, refl, sym, ap, _∙_}
+use Prim.Native.Nat.{ℕ, _+_, _-_, _≤_, _<_}
+use mathlib.Core.Path.{_≡_, refl, sym, _∙_}
 use native.Mathlib.Omega.{arith}
 use native.Mathlib.Nat.{add-zero}
 use borrow.Author.Needs.{needs}
@@ -9,8 +9,6 @@ use Rattle.image.proofs.Storing.{list-turn, list-none}
 use Rattle.image.proofs.Bytes.{one-below}
 use Rattle.image.proofs.stores.put_bytes.Statement.{statement}
 use Rattle.image.proofs.stores.put_bytes.Tie as tie
-use Rattle.image.proofs.stores.put_bytes.Reads as reads
-use Rattle.image.proofs.stores.put_bytes.Lts as lts
 
 abbrev Inv-loop : tie.InvT-loop
 Inv-loop out₀ at list i₀ out i =
@@ -20,31 +18,24 @@ Inv-loop out₀ at list i₀ out i =
 abbrev μ-loop : tie.MeasureT-loop
 μ-loop out₀ at list i₀ out i = length list - i
 
--- src/stores.rt:49:5
 loop-holds : tie.Need-loop-holds Inv-loop μ-loop
 loop-holds c = (omega arith, refl, rw add-zero, λ k h. absurd (omega arith))
 
--- src/stores.rt:50:23
 shared-slice-read-out : tie.Need-shared-slice-read-out Inv-loop μ-loop
 shared-slice-read-out c = omega arith
 
--- src/stores.rt:50:13
 add-out : tie.Need-add-out Inv-loop μ-loop
 add-out c = omega arith
 
--- src/stores.rt:50:9
 slice-write-out : tie.Need-slice-write-out Inv-loop μ-loop
 slice-write-out c = omega arith
 
--- src/stores.rt:51:9
 add-i : tie.Need-add-i Inv-loop μ-loop
 add-i c = omega arith
 
--- src/stores.rt:49:5
 loop-less : tie.Need-loop-less Inv-loop μ-loop
 loop-less c = omega arith
 
--- src/stores.rt:49:5
 loop-again : tie.Need-loop-again Inv-loop μ-loop
 loop-again c =
     let l = c .before .before .loop in
@@ -55,15 +46,12 @@ loop-again c =
       one-below (a .list .now) (l .i) (l .inv .3) (omega (arith, c .shared-slice-known .given (l .i))),
     )
 
--- src/stores.rt:53:5
 add-result : tie.Need-add-result Inv-loop μ-loop
 add-result c = omega arith
 
--- src/stores.rt:44:1
 same-length : tie.Need-same-length Inv-loop μ-loop
 same-length c = search needs
 
--- src/stores.rt:44:1
 returns : tie.Need-returns Inv-loop μ-loop
 returns c =
     let a = c .before .before .args in

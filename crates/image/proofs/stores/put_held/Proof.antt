@@ -1,5 +1,4 @@
-use Prim.Native.Nat.{ℕ, zero, suc, _+_, _-_, _*_, _^_, _≤_, _<_}
-use mathlib.Core.Path.{_≡_, refl, sym, ap, _∙_}
+use mathlib.Core.Path.{_≡_, ap}
 use native.Mathlib.Omega.{arith}
 use lib.ListN.{length}
 use Rattle.jobs.specs.declared.Held.{Held}
@@ -8,28 +7,19 @@ use Rattle.image.proofs.Storing.{stored-none, stored-one}
 use borrow.Author.Needs.{needs}
 use Rattle.image.proofs.stores.put_held.Statement.{statement}
 use Rattle.image.proofs.stores.put_held.Tie as tie
-use Rattle.image.proofs.stores.put_held.Reads as reads
-use Rattle.image.proofs.stores.put_held.Lts as lts
-use Rattle.image.proofs.stores.put.Reads as put-reads
-use Rattle.image.proofs.stores.put_job.Reads as put-job-reads
 
--- src/stores.rt:102:30
 enum-told : tie.Need-enum-told
 enum-told c = search needs
 
--- src/stores.rt:102:26
 put-requires : tie.Need-put-requires
 put-requires c κs = search needs
 
--- src/stores.rt:103:21
 enum-known-held : tie.Need-enum-known-held
 enum-known-held c = search needs
 
--- src/stores.rt:104:17
 put-requires-2 : tie.Need-put-requires-2
 put-requires-2 c κs = search needs
 
--- src/stores.rt:105:13
 put-job-requires : tie.Need-put-job-requires
 put-job-requires c κs =
     let a = c .before .before .before .before .before .before .before .before .before .args in
@@ -37,21 +27,17 @@ put-job-requires c κs =
     let p = c .before .before .before .put2 in
     omega (arith, e, p .ensures .0, p .kept .0)
 
--- src/stores.rt:97:1
 same-length : tie.Need-same-length
 same-length c = search needs
 
--- src/stores.rt:97:1
 returns : tie.Need-returns
 returns c =
     let a = c .before .before .before .before .before .before .before .args in
     stored-none (a .held) (a .out .now) _ (a .at) _ (c .before .before .before .before .enum-told .given .1) (c .before .before .put .ensures)
 
--- src/stores.rt:97:1
 same-length-2 : tie.Need-same-length-2
 same-length-2 c = search needs
 
--- src/stores.rt:97:1
 returns-2 : tie.Need-returns-2
 returns-2 c =
     let a = c .before .before .before .before .before .before .before .before .before .before .before .before .args in

@@ -1,32 +1,21 @@
-use Prim.Native.Nat.{ℕ, zero, suc, _+_, _-_, _*_, _^_, _≤_, _<_}
-use mathlib.Core.Path.{_≡_, refl, sym, ap, _∙_}
 use native.Mathlib.Omega.{arith}
 use Rattle.image.proofs.Storing.{wrote-job}
 use borrow.Author.Needs.{needs}
 use Rattle.image.proofs.stores.put_job.Statement.{statement}
 use Rattle.image.proofs.stores.put_job.Tie as tie
-use Rattle.image.proofs.stores.put_job.Reads as reads
-use Rattle.image.proofs.stores.put_job.Lts as lts
-use Rattle.image.proofs.stores.put.Reads as put-reads
-use Rattle.image.proofs.stores.put_bytes.Reads as put-bytes-reads
 
--- src/stores.rt:92:32
 slice-aggregate-put-bytes : tie.Need-slice-aggregate-put-bytes
 slice-aggregate-put-bytes c = search needs
 
--- src/stores.rt:92:9
 put-bytes-requires : tie.Need-put-bytes-requires
 put-bytes-requires c κs = search needs
 
--- src/stores.rt:93:5
 put-requires : tie.Need-put-requires
 put-requires c κs = search needs
 
--- src/stores.rt:72:1
 same-length : tie.Need-same-length
 same-length c = search needs
 
--- src/stores.rt:72:1
 returns : tie.Need-returns
 returns c =
     let a = c .before .before .before .before .before .before .before .before .before .before .args in

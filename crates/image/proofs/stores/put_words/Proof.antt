@@ -1,7 +1,6 @@
-use Prim.Native.Nat.{ℕ, zero, suc, _+_, _-_, _*_, _^_, _≤_, _<_}
-use mathlib.Core.Path.{_≡_, refl, sym, ap, _∙_}
+use Prim.Native.Nat.{_+_, _-_, _*_, _≤_}
+use mathlib.Core.Path.{_≡_, refl, sym, _∙_}
 use native.Mathlib.Omega.{arith}
-use native.Mathlib.Nat.{add-zero}
 use lib.ListN.{length, drop}
 use lib.Seq.{sets}
 use borrow.Author.Needs.{needs}
@@ -9,9 +8,6 @@ use Rattle.image.specs.Format.{bytes, items}
 use Rattle.image.proofs.Storing.{words-turn, words-none}
 use Rattle.image.proofs.stores.put_words.Statement.{statement}
 use Rattle.image.proofs.stores.put_words.Tie as tie
-use Rattle.image.proofs.stores.put_words.Reads as reads
-use Rattle.image.proofs.stores.put_words.Lts as lts
-use Rattle.image.proofs.stores.put.Reads as put-reads
 
 abbrev Inv-loop : tie.InvT-loop
 Inv-loop out₀ at words p₀ i₀ out p i =
@@ -20,31 +16,24 @@ Inv-loop out₀ at words p₀ i₀ out p i =
 abbrev μ-loop : tie.MeasureT-loop
 μ-loop out₀ at words p₀ i₀ out p i = length words - i
 
--- src/stores.rt:36:5
 loop-holds : tie.Need-loop-holds Inv-loop μ-loop
 loop-holds c = (omega arith, omega arith, refl, refl)
 
--- src/stores.rt:37:28
 mul-put : tie.Need-mul-put Inv-loop μ-loop
 mul-put c = search needs
 
--- src/stores.rt:37:28
 shared-slice-read-put : tie.Need-shared-slice-read-put Inv-loop μ-loop
 shared-slice-read-put c = search needs
 
--- src/stores.rt:37:9
 put-requires : tie.Need-put-requires Inv-loop μ-loop
 put-requires c κs = search needs
 
--- src/stores.rt:38:9
 add-i : tie.Need-add-i Inv-loop μ-loop
 add-i c = omega arith
 
--- src/stores.rt:36:5
 loop-less : tie.Need-loop-less Inv-loop μ-loop
 loop-less c = omega arith
 
--- src/stores.rt:36:5
 loop-again : tie.Need-loop-again Inv-loop μ-loop
 loop-again c =
     let l = c .before .before .before .before .before .before .loop in
@@ -58,11 +47,9 @@ loop-again c =
       rw (r .ensures .1, f) (sym (words-turn (l .out) (l .p) (a .words .now) (l .i) (search needs)) ∙ l .inv .3),
     )
 
--- src/stores.rt:30:1
 same-length : tie.Need-same-length Inv-loop μ-loop
 same-length c = search needs
 
--- src/stores.rt:30:1
 returns : tie.Need-returns Inv-loop μ-loop
 returns c =
     let l = c .before .loop in

@@ -1,5 +1,5 @@
-use Prim.Native.Nat.{ℕ, zero, suc, _+_, _-_, _*_, _^_, _≤_, _<_}
-use mathlib.Core.Path.{_≡_, refl, sym, ap, _∙_}
+use Prim.Native.Nat.{_+_, _*_}
+use mathlib.Core.Path.{sym, ap}
 use native.Mathlib.Omega.{arith}
 use Rattle.image.specs.Format.{heldJobs}
 use lib.ListN.{length}
@@ -7,22 +7,16 @@ use Rattle.jobs.specs.declared.Held.{Held}
 use borrow.Author.Needs.{needs}
 use Rattle.image.proofs.writing.held_length.Statement.{statement}
 use Rattle.image.proofs.writing.held_length.Tie as tie
-use Rattle.image.proofs.writing.held_length.Reads as reads
-use Rattle.image.proofs.writing.held_length.Lts as lts
 
--- src/writing.rt:31:26
 enum-told : tie.Need-enum-told
 enum-told c = search needs
 
--- src/writing.rt:32:27
 enum-told-2 : tie.Need-enum-told-2
 enum-told-2 c = search needs
 
--- src/writing.rt:27:1
 returns : tie.Need-returns
 returns c = (ap (λ (h : Held). 4 + 22 * length (heldJobs h)) (sym (c .enum-told .given .1)), omega arith)
 
--- src/writing.rt:27:1
 returns-2 : tie.Need-returns-2
 returns-2 c = (ap (λ (h : Held). 4 + 22 * length (heldJobs h)) (sym (c .enum-told2 .given .1)), omega arith)
 

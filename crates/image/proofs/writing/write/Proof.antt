@@ -1,5 +1,3 @@
-use Prim.Native.Nat.{ℕ, zero, suc, _+_, _-_, _*_, _^_, _≤_, _<_}
-use mathlib.Core.Path.{_≡_, refl, sym, ap, _∙_}
 use native.Mathlib.Omega.{arith}
 use lib.ListN.{length}
 use Rattle.image.specs.Parts.{state}
@@ -7,25 +5,16 @@ use Rattle.image.proofs.WriteCalls.{write-room, write-refused, write-do
 use borrow.Author.Needs.{needs}
 use Rattle.image.proofs.writing.write.Statement.{statement}
 use Rattle.image.proofs.writing.write.Tie as tie
-use Rattle.image.proofs.writing.write.Reads as reads
-use Rattle.image.proofs.writing.write.Lts as lts
-use Rattle.image.proofs.stores.put_held.Reads as put-held-reads
-use Rattle.image.proofs.stores.put_machine.Reads as put-machine-reads
-use Rattle.image.proofs.writing.check_write.Reads as check-write-reads
 
--- src/writing.rt:64:9
 check-write-requires : tie.Need-check-write-requires
 check-write-requires c κs = search needs
 
--- src/writing.rt:66:24
 enum-known-check : tie.Need-enum-known-check
 enum-known-check c = search needs
 
--- src/writing.rt:68:42
 enum-told : tie.Need-enum-told
 enum-told c = search needs
 
--- src/writing.rt:68:17
 put-machine-requires : tie.Need-put-machine-requires
 put-machine-requires c κs =
     let k = c .before .before .before in
@@ -33,7 +22,6 @@ put-machine-requires c κs =
     let s = state (a .width) (a .words .now) (a .responses .now) (a .held) in
     omega (arith, write-room s (length (a .out .now)) (k .check-write .result) (k .check-write .ensures) (c .before .enum-told .given .1))
 
--- src/writing.rt:69:27
 put-held-requires : tie.Need-put-held-requires
 put-held-requires c κs =
     let k = c .before .before .before .before .before .before .before in
@@ -42,7 +30,6 @@ put-held-requires c κs =
     let p = c .before .before .before .put-machine in
     omega (arith, write-room s (length (a .out .now)) (k .check-write .result) (k .check-write .ensures) (c .before .before .before .before .before .enum-told .given .1), p .ensures .0, p .kept .0)
 
--- src/writing.rt:54:1
 returns : tie.Need-returns
 returns c =
     let k = c .before .before .before in
@@ -50,11 +37,9 @@ returns c =
     let s = state (a .width) (a .words .now) (a .responses .now) (a .held) in
     write-refused s (a .out .now) (k .check-write .result) _ (k .check-write .ensures) (c .before .check .given .1)
 
--- src/writing.rt:54:1
 same-length : tie.Need-same-length
 same-length c = search needs
 
--- src/writing.rt:54:1
 returns-2 : tie.Need-returns-2
 returns-2 c =
     let k = c .before .before .before .before .before .before .before .before .before .before in
