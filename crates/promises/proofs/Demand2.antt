@@ -1,6 +1,7 @@
--- Demand 2: "Every pulse does to every word what 01 lays down. Search marks exactly the matching words."
+-- Demand 2: "Every pulse does to every word what 01 lays down. Search marks exactly the matching words. The cell-by-cell machine and the word-wide
+-- machine agree. An image read back is the machine stored; each machine has one image."
 -- Assumes nothing.
-use Prim.Native.Nat.{ℕ, _<_}
+use Prim.Native.Nat.{ℕ, _≤_, _<_}
 use mathlib.Core.Path.{_≡_, sym, _∙_}
 use mathlib.Core.Bool.{Bool, true, false}
 use native.Mathlib.Omega.{arith}
@@ -10,7 +11,8 @@ use borrow.Fn.World.{ArgsD, ResD}
 use borrow.Fn.Kinds.{endedOf}
 use denote.Triple.Clauses.{AtExit}
 use denote.Ref.{now}
-use lib.ListN.{length, getD}
+use mathlib.Core.List.{List}
+use lib.ListN.{length, take, getD}
 use Rattle.laws.specs.Bits.{bit, pick, digit}
 use Rattle.laws.proofs.Digits.{bit-lt}
 use Rattle.laws.proofs.Bits.{digit-at, number-bit}
@@ -29,6 +31,14 @@ use Rattle.machine.specs.Resolution.{resolved}
 use Rattle.machine.specs.Refusals.{pulseCheck, after}
 use Rattle.machine.proofs.Checks as checks
 use Rattle.machine.proofs.Statuses.{cells-match}
+use Rattle.jobs.specs.Runs.{State}
+use Rattle.image.specs.declared.Scanned.the-variants.{Sound, Broken}
+use Rattle.image.specs.Format.{imageOf}
+use Rattle.image.specs.Reading.{scanned, fieldsOf, stateIn}
+use Rattle.image.proofs.Bytes.{AreBytes}
+use Rattle.image.proofs.RoundTrip.{Stored, roundTrip, injective}
+use Rattle.image.proofs.Unique.{one-image, stored-again}
+use Rattle.image.proofs.Cuts.{startOf, within, image-cut-off}
 use Rattle.cells.proofs.pulse as plain
 use Rattle.cells.proofs.pulse.Kinds as plain-kinds
 use Rattle.cells.proofs.pulse.Reads as plain-reads
@@ -100,3 +110,30 @@ pub lowest-exactly : (key care : ℕ) (m : Machine) (w : WordSlice)
     → (resolved key care m ≡ At w → LowestAt (selected key care) (m .responses) (w .0))
     × (LowestAt (selected key care) (m .responses) (w .0) → resolved key care m ≡ At w)
 lowest-exactly = resolved-word
+
+-- ---- "An image read back is the machine stored; each machine has one image": `Stored s` says that writing does not turn s down for want of
+-- anything but room, `AreBytes` that each element is below 256
+
+-- what was written reads back as the same machine, its held job included
+pub read-back : (s : State) → Stored s → (scanned (imageOf s) ≡ Sound) × (stateIn (imageOf s) ≡ s)
+read-back = roundTrip
+
+-- bytes that read as machine s are the one image of s
+pub one-image-each : (b : List ℕ) (s : State) → AreBytes b → scanned b ≡ Sound → stateIn b ≡ s → b ≡ imageOf s
+one-image-each = one-image
+
+-- so two machines with one image are equal
+pub one-machine-each : (s t : State) → Stored s → Stored t → imageOf s ≡ imageOf t → s ≡ t
+one-machine-each = injective
+
+-- and what has been read can be stored again
+pub storable : (b : List ℕ) → AreBytes b → scanned b ≡ Sound → Stored (stateIn b)
+storable = stored-again
+
+-- every place that 9 gives is below or at the input's length
+pub place-within : (b : List ℕ) (at : ℕ) → scanned b ≡ Broken at → at ≤ length b
+place-within = within
+
+-- a proper prefix of an image is turned down at the field that is cut
+pub cut-field : (s : State) (k : ℕ) → Stored s → k < length (imageOf s) → scanned (take k (imageOf s)) ≡ Broken (startOf (fieldsOf (imageOf s)) 0 k)
+cut-field = image-cut-off
