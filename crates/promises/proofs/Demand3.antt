@@ -1,20 +1,25 @@
 -- Demand 3: "A job gives one named command a step, ends in the stated arithmetic, in exactly the stated number of pulses .. A hand-out round
 -- shows a responder with k lower ones after exactly k stored answers." What stops and stored images add comes with the images.
 -- Assumes nothing.
-use Prim.Native.Nat.{ℕ, _+_, _*_, _-_, _^_, _≤_, _<_, min}
-use mathlib.Core.Path.{_≡_}
+use Prim.Native.Nat.{ℕ, zero, suc, _+_, _*_, _-_, _^_, _≤_, _<_, min}
+use mathlib.Core.Path.{_≡_, refl}
+use mathlib.Core.Bool.{true, _&&_}
+use native.Mathlib.Omega.{arith}
+use borrow.Author.Tests.{eq-eqb}
 use mathlib.Core.List.{List}
-use lib.Dec.{ltb}
+use lib.Dec.{ltb, eqb}
 use lib.ListN.{length, drop, getD}
 use Rattle.laws.specs.Bits.{bit, digit}
 use Rattle.machine.specs.Machine.{Machine, responseBits}
 use Rattle.jobs.specs.declared.Job.{Job}
-use Rattle.jobs.specs.declared.Held.the-variants.{Nothing}
-use Rattle.jobs.specs.Fields.{greatest, smallest, scaledAdd, product, kindOf}
-use Rattle.jobs.specs.Places.{first}
-use Rattle.jobs.specs.Totals.{sumBelow, ones, zeros, valueOf, values, greatestOf, smallestOf, pulses}
+use Rattle.jobs.specs.declared.Held.the-variants.{Nothing, Holds}
+use Rattle.jobs.specs.declared.Total.the-variants as total
+use Rattle.jobs.specs.Fields.{Kind, greatest, smallest, scaledAdd, product, unknown, kindOf}
+use Rattle.jobs.specs.Places.{first, firstFor}
+use Rattle.jobs.specs.Totals.{sumBelow, ones, zeros, valueOf, values, greatestOf, smallestOf, pulses, atFirst, totalCheck, totalOf}
 use Rattle.jobs.specs.Runs.{steps}
 use Rattle.ends.specs.Ends.{Accepted, begun, Gives, ended, Adds, Marks}
+use Rattle.ends.proofs.Steps.{given-passed}
 use Rattle.ends.proofs.Ends.{course, not-over, stays-over}
 use Rattle.ends.proofs.Greatest.{greatest-pulses, greatest-ends}
 use Rattle.ends.proofs.Smallest.{smallest-pulses, smallest-ends}
@@ -25,6 +30,21 @@ use Rattle.rounds.specs.declared.Verdict.the-variants.{Done, Faulty}
 use Rattle.rounds.specs.Round.{shown}
 use Rattle.rounds.specs.Handout.{responders, responder, response, NotAmong, firstOf, Answers}
 use Rattle.rounds.proofs.Handout.{handed-out}
+
+-- a started job is at its first place
+at-first : (o : Job) → atFirst (first o) ≡ true
+unfolding first
+at-first o = go (kindOf (o .kind)) refl
+  where
+    same : (x : ℕ) → (eqb 0 0 && eqb x x && eqb 0 0) ≡ true
+    same x = rw (eq-eqb x x refl)
+
+    go : (k : Kind) → kindOf (o .kind) ≡ k → atFirst (firstFor k o) ≡ true
+    go greatest e = rw e (same (o .a .width - 1))
+    go smallest e = rw e (same (o .a .width - 1))
+    go scaledAdd e = rw e
+    go product e = rw e
+    go unknown e = rw (e, eq-eqb (o .phase) (o .phase) refl, eq-eqb (o .i) (o .i) refl, eq-eqb (o .j) (o .j) refl)
 
 -- ---- jobs: for any machine m and any job o whose start is accepted (`Accepted m o`)
 
@@ -74,6 +94,16 @@ module _ (m : Machine) (o : Job) (accepted : Accepted m o) where
   pub product-takes : kindOf (o .kind) ≡ product
       → pulses m (first o) ≡ 2 * sumBelow (o .a .width) (λ i. sumBelow (o .b .width) (λ j. digit (ltb (i + j) (o .p .width))))
   product-takes = product-pulses m o accepted
+
+  some-pulse : (k : ℕ) → pulses m (first o) ≡ k → 0 < k
+  unfolding steps
+  some-pulse zero e = let z : _≡_ {A = ℕ} 0 1 = cc (rw e at over-at-last) in absurd (omega arith)
+  some-pulse (suc k) e = omega arith
+
+  -- `total`, asked before the first step, answers the number of pulses that are then taken
+  pub total-is-taken : totalOf m (Holds (first o)) ≡ total.Pulses (pulses m (first o))
+  unfolding totalOf totalCheck steps
+  total-is-taken = rw (given-passed (begun m o) (one-command-a-step 0 (some-pulse (pulses m (first o)) refl)), at-first o)
 
 -- ---- rounds
 

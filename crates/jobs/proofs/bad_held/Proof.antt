@@ -14,7 +14,7 @@ in-table-requires c κs = search needs
 
 returns : tie.Need-returns
 unfolding badHeld
-returns c = cc
+returns c = rw (c .before .before .bad-used .ensures, c .before .unused-zero .ensures, c .in-table .ensures)
 
 pub bad-held-spec : {M : Type 1} → statement M
 bad-held-spec =

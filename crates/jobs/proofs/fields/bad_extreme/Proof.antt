@@ -14,7 +14,7 @@ bad-syllable-requires c κs = search needs
 
 returns : tie.Need-returns
 unfolding badExtreme
-returns c = cc
+returns c = rw (c .before .before .before .bad-working-bit .ensures, c .before .before .bad-working-bit2 .ensures, c .bad-syllable .ensures)
 
 pub bad-extreme-spec : {M : Type 1} → statement M
 bad-extreme-spec =

@@ -14,7 +14,7 @@ overlap-requires c κs = search needs
 
 returns : tie.Need-returns
 unfolding badProduct
-returns c = cc
+returns c = rw (c .before .before .bad-scaled-add .ensures, c .before .bad-syllable .ensures, c .overlap .ensures)
 
 pub bad-product-spec : {M : Type 1} → statement M
 bad-product-spec =

@@ -17,7 +17,7 @@ overlap-requires c κs = search needs
 
 returns : tie.Need-returns
 unfolding badScaledAdd
-returns c = cc
+returns c = rw (c .before .before .before .bad-working-bit .ensures, c .before .before .bad-syllable .ensures, c .before .bad-syllable2 .ensures, c .overlap .ensures)
 
 pub bad-scaled-add-spec : {M : Type 1} → statement M
 bad-scaled-add-spec =

@@ -9,7 +9,7 @@ is-zero-requires-2 : tie.Need-is-zero-requires-2
 is-zero-requires-2 c κs = search needs
 
 returns : tie.Need-returns
-returns c = cc
+returns c = rw (c .before .before .before .is-zero .ensures, c .before .before .is-zero2 .ensures)
 
 pub extreme-zero-spec : {M : Type 1} → statement M
 extreme-zero-spec = tie.close (tie.spec is-zero-requires is-zero-requires-2 returns)

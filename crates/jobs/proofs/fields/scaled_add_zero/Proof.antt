@@ -6,7 +6,7 @@ is-zero-requires : tie.Need-is-zero-requires
 is-zero-requires c κs = search needs
 
 returns : tie.Need-returns
-returns c = cc
+returns c = rw (c .before .is-zero .ensures)
 
 pub scaled-add-zero-spec : {M : Type 1} → statement M
 scaled-add-zero-spec = tie.close (tie.spec is-zero-requires returns)

@@ -15,7 +15,7 @@ at-place-requires : tie.Need-at-place-requires
 at-place-requires c κs = search needs
 
 returns : tie.Need-returns
-returns c = cc
+returns c = rw (c .before .at-place .ensures)
 
 pub extreme-place-spec : {M : Type 1} → statement M
 extreme-place-spec =

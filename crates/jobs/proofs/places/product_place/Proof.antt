@@ -18,7 +18,7 @@ at-place-requires : tie.Need-at-place-requires
 at-place-requires c κs = search needs
 
 returns : tie.Need-returns
-returns c = cc
+returns c = rw (c .before .before .at-place .ensures)
 
 pub product-place-spec : {M : Type 1} → statement M
 product-place-spec =

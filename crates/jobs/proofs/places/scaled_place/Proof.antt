@@ -6,7 +6,7 @@ at-place-requires : tie.Need-at-place-requires
 at-place-requires c κs = search needs
 
 returns : tie.Need-returns
-returns c = cc
+returns c = rw (c .before .before .at-place .ensures)
 
 pub scaled-place-spec : {M : Type 1} → statement M
 scaled-place-spec = tie.close (tie.spec at-place-requires returns)
