@@ -1,0 +1,206 @@
+-- A job over stops: whatever is stored, stopped and resumed, what stands is what the job's steps alone would have left.
+-- Document 01, 'Jobs' and 'The image'. The theorem: `survives`.
+-- Assumes nothing.
+use Prim.Native.Nat.{ℕ, zero, suc, _-_, _≤_, _<_}
+use mathlib.Core.Path.{_≡_, refl, sym, ap, _∙_}
+use mathlib.Core.Bool.{false}
+use mathlib.Core.Logic.{⊎-elim}
+use mathlib.Core.List.{List, [], _∷_}
+use native.Mathlib.Omega.{arith}
+use lib.ListN.{length}
+use Rattle.laws.proofs.Digits.{tri}
+use Rattle.machine.specs.declared.Check.{Check}
+use Rattle.machine.specs.declared.Check.the-variants as check
+use Rattle.machine.specs.declared.Refusal.the-variants.{Unfit}
+use Rattle.machine.specs.Machine.{Machine}
+use Rattle.machine.specs.Refusals.{machineCheck}
+use Rattle.machine.proofs.Checks.{sound, else-passed, not-refused}
+use Rattle.jobs.specs.declared.Job.{Job}
+use Rattle.jobs.specs.declared.Held.{Held}
+use Rattle.jobs.specs.declared.Held.the-variants.{Nothing, Holds}
+use Rattle.jobs.specs.declared.Command.{Command}
+use Rattle.jobs.specs.declared.Stepped.the-variants as answer
+use Rattle.jobs.specs.Places.{first}
+use Rattle.jobs.specs.Calls.{badStep, stepCheck, gave, steppedBy, stepOf}
+use Rattle.jobs.specs.Totals.{pulses}
+use Rattle.jobs.specs.Runs.{State, stepped, steps}
+use Rattle.ends.specs.Ends.{Accepted, begun, Gives, ended}
+use Rattle.ends.proofs.Steps.{given-passed, steps-on, steps-last}
+use Rattle.ends.proofs.Machines.{words-length}
+use Rattle.ends.proofs.Ends.{course, not-over, stays-over}
+use Rattle.image.specs.Format.{imageOf}
+use Rattle.image.specs.Calls.{badJob}
+use Rattle.image.proofs.RoundTrip.{Stored}
+use Rattle.hosts.specs.Images.{Stores, Resumes}
+use Rattle.hosts.specs.Stops as stops
+use Rattle.hosts.specs.Stops.{Kept, In, here, there, Worked}
+use Rattle.hosts.proofs.Images.{Typed, stored-image, can-store, resumed-machine, can-resume}
+use Rattle.hosts.proofs.Typed.{first-fits, stepped-typed}
+
+-- a step while none is held gives nothing
+held-given : (m : Machine) (h : Held) {c : Command} {n : ℕ} {g : Held} → stepOf m h ≡ answer.Gave c n g → h ≡ Nothing → ⊥
+unfolding stepOf
+held-given m h e z = go (stepCheck m Nothing) (ap (λ (h : Held). steppedBy (stepCheck m h) (gave m h)) (sym z) ∙ e)
+  where
+    go : (c : Check) {k : Command} {n : ℕ} {g : Held} → steppedBy c (answer.Refused Unfit) ≡ answer.Gave k n g → ⊥
+    go check.Passed e = let z : _≡_ {A = ℕ} 0 1 = cc in absurd (omega arith)
+    go (check.Refused r) e = let z : _≡_ {A = ℕ} 0 1 = cc in absurd (omega arith)
+
+steps-typed : (k : ℕ) (s : State) → Typed s → Typed (steps k s)
+unfolding steps
+steps-typed zero s t = t
+steps-typed (suc k) s t = steps-typed k (stepped s) (stepped-typed s t)
+
+none-in : (i : Kept) (is : List Kept) → In i is → is ≡ [] → ⊥
+none-in i (j ∷ is) p e = let z : _≡_ {A = ℕ} 0 1 = cc in absurd (omega arith)
+
+-- a machine and a job that a step does not turn down can be stored
+fit-to-store : (n : ℕ) (h : Held) → badStep n h ≡ false → badJob n h ≡ false
+fit-to-store n Nothing e = refl
+fit-to-store n (Holds o) e = e
+
+passed-stored : (s : State) → Typed s → stepCheck (s .machine) (s .held) ≡ check.Passed → Stored s
+unfolding stepCheck
+passed-stored s t h =
+    let p = else-passed (machineCheck (s .machine)) _ h in
+    record {
+      machine = p .0;
+      job = fit-to-store (s .machine .width) (s .held) (not-refused Unfit _ (p .1));
+      responses = t .responses;
+      constant = t .constant;
+    }
+
+module _ (m : Machine) (o : Job) (accepted : Accepted m o) (typed : Typed (record { machine = m; held = Holds o })) where
+  begun-typed : Typed (begun m o)
+  begun-typed = record { responses = typed .responses; constant = first-fits o (typed .constant) }
+
+  -- what stands after k of the job's pulses
+  abbrev standing : ℕ → State
+  standing k = steps k (begun m o)
+
+  -- it can be stored, up to the end and there too
+  pub storable : (k : ℕ) → k ≤ pulses m (first o) → Stored (standing k)
+  storable k h = ⊎-elim before (⊎-elim at-end (λ g. absurd (omega arith))) (tri k (pulses m (first o)))
+    where
+      typed-then : Typed (standing k)
+      typed-then = steps-typed k (begun m o) begun-typed
+
+      before : k < pulses m (first o) → Stored (standing k)
+      before g = passed-stored (standing k) typed-then (given-passed (standing k) (course m o accepted .gives k g))
+
+      at-end : k ≡ pulses m (first o) → Stored (standing k)
+      at-end e = record {
+        machine = ap (λ (i : ℕ). machineCheck (standing i .machine)) e ∙ course m o accepted .passes;
+        job = ap (badJob (standing k .machine .width)) (ap (λ (i : ℕ). standing i .held) e ∙ course m o accepted .over);
+        responses = typed-then .responses;
+        constant = typed-then .constant;
+      }
+
+  -- no word is added or lost
+  size-kept : (k : ℕ) → k ≤ pulses m (first o) → length (standing k .machine .words) ≡ length (m .words)
+  unfolding steps
+  size-kept zero h = refl
+  size-kept (suc k) h =
+      ap (λ (z : State). length (z .machine .words)) (steps-last k (begun m o))
+      ∙ ap (λ (z : Machine). length (z .words)) (course m o accepted .gives k (omega arith) .pulse)
+      ∙ words-length (standing k .machine) (sound (standing k .machine) (storable k (omega arith) .machine)) _ _
+      ∙ size-kept k (omega arith)
+
+  -- ---- what every course of events keeps
+
+  -- an image is the one of what stood after as many pulses as it says
+  record Right (i : Kept) : Type 0 where
+    pub few : i .pulses ≤ pulses m (first o)
+    pub is : i .image ≡ imageOf (standing (i .pulses))
+
+  record Stands (k : ℕ) (s : State) (images : List Kept) : Type 0 where
+    pub few : k ≤ pulses m (first o)
+    pub is : s ≡ standing k
+    pub kept : (i : Kept) → In i images → Right i
+
+  -- a step that is accepted is one of the stated pulses
+  one-more : (k : ℕ) (s : State) (images : List Kept) {c : Command} {n : ℕ} {h : Held} → Stands k s images
+      → stepOf (s .machine) (s .held) ≡ answer.Gave c n h → Stands (suc k) (stepped s) images
+  one-more k s images w g = record {
+    few = ⊎-elim (λ l. omega arith) (⊎-elim over (λ l. absurd (omega (arith, w .few)))) (tri k (pulses m (first o)));
+    is = ap stepped (w .is) ∙ sym (steps-last k (begun m o));
+    kept = w .kept;
+  }
+    where
+      over : k ≡ pulses m (first o) → suc k ≤ pulses m (first o)
+      over e =
+          absurd (held-given (s .machine) (s .held) g
+          (ap (λ (z : State). z .held) (w .is) ∙ ap (λ (i : ℕ). standing i .held) e ∙ course m o accepted .over))
+
+  image-kept : (k : ℕ) (s : State) (images : List Kept) (image : List ℕ) → Stands k s images → Stores s image
+      → Stands k s (record { image = image; pulses = k } ∷ images)
+  image-kept k s images image w h = record { few = w .few; is = w .is; kept = λ i p. among i p }
+    where
+      right : Right (record { image = image; pulses = k })
+      right = record { few = w .few; is = stored-image (rw (w .is) (steps-typed k (begun m o) begun-typed)) h .1 ∙ ap imageOf (w .is) }
+
+      among : (i : Kept) → In i (record { image = image; pulses = k } ∷ images) → Right i
+      among i here = right
+      among i (there p) = w .kept i p
+
+  went-back : (k : ℕ) (s t : State) (images : List Kept) (i : Kept) → Stands k s images → In i images → Resumes (i .image) t
+      → Stands (i .pulses) t images
+  went-back k s t images i w p r =
+      let h = w .kept i p in
+      record {
+        few = h .few;
+        is = resumed-machine (standing (i .pulses)) (storable (i .pulses) (h .few)) (rw (← (h .is)) r);
+        kept = w .kept;
+      }
+
+  stands : {k : ℕ} {s : State} {images : List Kept} → Worked (begun m o) k s images → Stands k s images
+  unfolding steps
+  stands stops.begun = record { few = omega arith; is = refl; kept = λ i p. absurd (none-in i [] p refl) }
+  stands (stops.gave w g) = one-more _ _ _ (stands w) g
+  stands (stops.stored w h) = image-kept _ _ _ _ (stands w) h
+  stands (stops.resumed w p r) = went-back _ _ _ _ _ (stands w) p r
+
+  -- ---- the theorem: of any course of events, with any stops
+
+  module _ {k : ℕ} {s : State} {images : List Kept} (worked : Worked (begun m o) k s images) where
+    -- what stands is what the job's steps alone leave
+    pub as-without-stops : s ≡ steps k (begun m o)
+    as-without-stops = stands worked .is
+
+    -- no more pulses than stated
+    pub never-more : k ≤ pulses m (first o)
+    never-more = stands worked .few
+
+    -- the end comes after the stated number of pulses, and is the end without stops
+    pub same-end : s .held ≡ Nothing → (k ≡ pulses m (first o)) × (s .machine ≡ ended m o)
+    same-end e =
+        let w = stands worked in
+        let c : k ≡ pulses m (first o) =
+        ⊎-elim (λ l. absurd (not-over m o accepted k l (sym (ap (λ (z : State). z .held) (w .is)) ∙ e)))
+        (⊎-elim (λ q. q) (λ l. absurd (omega (arith, w .few)))) (tri k (pulses m (first o))) in
+        (c, ap (λ (z : State). z .machine) (w .is) ∙ ap (λ (i : ℕ). steps i (begun m o) .machine) c)
+
+    -- before it a step is not refused
+    pub goes-on : k < pulses m (first o) → Gives s
+    goes-on l = rw (stands worked .is) (course m o accepted .gives k l)
+
+    -- the steps that are left lead to it
+    pub rest-ends : steps (pulses m (first o) - k) s ≡ record { machine = ended m o; held = Nothing }
+    rest-ends =
+        let w = stands worked in
+        ap (steps (pulses m (first o) - k)) (w .is)
+        ∙ sym (steps-on k (pulses m (first o) - k) (begun m o))
+        ∙ ap (λ (i : ℕ). steps i (begun m o)) (omega (arith, w .few))
+        ∙ stays-over m o accepted 0
+
+    -- what stands can be stored in any output that is long enough
+    pub can-be-stored : (output : List ℕ) → length (imageOf s) ≤ length output → Stores s (imageOf s)
+    can-be-stored = can-store s (rw (stands worked .is) (storable k (stands worked .few)))
+
+    -- and any stored image can be resumed, into any destinations that are long enough
+    pub can-be-resumed : (i : Kept) → In i images → (words responses : List ℕ) → length (m .words) ≤ length words → length (m .words) ≤ length responses
+        → Resumes (i .image) (steps (i .pulses) (begun m o))
+    can-be-resumed i p words responses h g =
+        let w = stands worked .kept i p in
+        let l = size-kept (i .pulses) (w .few) in
+        rw (w .is) (can-resume (standing (i .pulses)) (storable (i .pulses) (w .few)) words responses (omega (arith, h, l)) (omega (arith, g, l)))

@@ -1,0 +1,215 @@
+-- Calls that are none of a round's: what they keep, and which of them leave X and F as they are.
+-- Assumes nothing.
+use Prim.Native.Nat.{ℕ, _+_, _-_, _<_}
+use mathlib.Core.Path.{_≡_, refl, sym, ap, _∙_}
+use mathlib.Core.Bool.{Bool, true, false, not, _&&_, _||_}
+use native.Mathlib.Omega.{arith}
+use lib.Dec.{eqb, ltb}
+use lib.ListN.{length}
+use borrow.Author.Tests.{eqb-true, not-false}
+use Rattle.laws.specs.Bits.{bit, pick, digit}
+use Rattle.laws.proofs.Digits.{bit-lt}
+use Rattle.laws.proofs.Bits.{digit-at, bit-none, number-bit, and-left}
+use Rattle.machine.specs.declared.Panel.{Panel}
+use Rattle.machine.specs.declared.Lines.{Lines}
+use Rattle.machine.specs.declared.Check.{Check}
+use Rattle.machine.specs.declared.Check.the-variants.{Passed, Refused}
+use Rattle.machine.specs.declared.Refusal.the-variants.{Unfit}
+use Rattle.machine.specs.Machine.{Machine, responseBits, selected}
+use Rattle.machine.specs.Search.{matches, marked}
+use Rattle.machine.specs.Pulse.{flipped, responseAfter, pulsed}
+use Rattle.machine.specs.Refusals.{machineCheck, pulseCheck, changeBy, after}
+use Rattle.machine.proofs.Checks.{sound, clean, else-passed, not-refused, or-right}
+use Rattle.jobs.specs.declared.Held.{Held}
+use Rattle.jobs.specs.declared.Held.the-variants.{Holds}
+use Rattle.jobs.specs.declared.Command.{Command}
+use Rattle.jobs.specs.declared.Stepped.{Stepped}
+use Rattle.jobs.specs.declared.Stepped.the-variants as answer
+use Rattle.jobs.specs.declared.Job.{Job}
+use Rattle.jobs.specs.Fields.{Kind, greatest, smallest, scaledAdd, product, unknown, kindOf, badUsed, unusedZero}
+use Rattle.jobs.specs.Places.{atPlace, inTableFor, inTable, badHeld}
+use Rattle.jobs.specs.Commands.{look, opening, trial, second, command}
+use Rattle.jobs.specs.Calls.{stepCheck, gave, steppedBy, stepOf, machineAfter, afterStep}
+use Rattle.jobs.specs.Runs.{State, stepped}
+use Rattle.ends.proofs.Machines.{passes, same, response-at, responses-length}
+use Rattle.ends.proofs.Starts.{accepted-is}
+use Rattle.rounds.specs.Handout.{response}
+use Rattle.rounds.proofs.Marks.{mask-else}
+use Rattle.rounds.proofs.Passing.{Fit}
+use Rattle.hosts.specs.Rounds as events
+use Rattle.hosts.specs.Rounds.{Other, Leaves, ApartFor, Apart}
+use Rattle.hosts.proofs.Images.{Typed}
+use Rattle.hosts.proofs.Typed.{pulsed-bytes, first-fits, stepped-typed}
+use Rattle.hosts.proofs.Fits.{pulsed-passes}
+
+-- ---- the machine that each leaves
+
+accepted-pulse : (m : Machine) (p : Panel) (l : Lines) → pulseCheck m p l ≡ Passed → after m p l ≡ pulsed m p l
+unfolding after
+accepted-pulse m p l h = ap (λ (c : Check). changeBy c (pulsed m p l) m) h
+
+pub accepted-step : (s : State) {k : Command} {c : ℕ} {h : Held} → stepOf (s .machine) (s .held) ≡ answer.Gave k c h
+    → stepped s .machine ≡ pulsed (s .machine) (k .panel) (k .lines)
+unfolding stepped afterStep
+accepted-step s e = ap (λ (a : Stepped). machineAfter a (s .machine)) e
+
+pub other-passes : {s t : State} → Other s t → machineCheck (s .machine) ≡ Passed → machineCheck (t .machine) ≡ Passed
+other-passes (events.pulses {s} p l a) h = rw (accepted-pulse (s .machine) p l a) (pulsed-passes (s .machine) p l h)
+other-passes (events.starts o c a) h = h
+other-passes (events.steps {s} {k} a) h = rw (accepted-step s a) (pulsed-passes (s .machine) (k .panel) (k .lines) h)
+other-passes events.loads h = h
+
+pub other-typed : {s t : State} → Other s t → Typed s → Typed t
+other-typed (events.pulses {s} p l a) t =
+    record { responses = rw (accepted-pulse (s .machine) p l a) (pulsed-bytes (s .machine) p l (t .responses)); constant = t .constant }
+other-typed (events.starts {s} {q} o c a) t =
+    record { responses = t .responses; constant = rw (accepted-is (s .machine) (s .held) o q a .1) (first-fits o c) }
+other-typed (events.steps {s} a) t = stepped-typed s t
+other-typed events.loads t = t
+
+-- ---- pulses
+
+bit-below : (x i : ℕ) → bit x i < 2
+bit-below x i = bit-lt (digit-at x i)
+
+either-below : (t : Bool) {a b : ℕ} → a < 2 → b < 2 → pick t a b < 2
+either-below true h g = h
+either-below false h g = g
+
+digit-below : (b : Bool) → digit b < 2
+digit-below true = omega arith
+digit-below false = omega arith
+
+flip-below : {b : ℕ} → b < 2 → 1 - b < 2
+flip-below h = omega arith
+
+-- a response bit that the target does not have
+untouched : (n : ℕ) (p : Panel) (l : Lines) (k w r i : ℕ) → i < responseBits → bit (p .target) i ≡ 0 → bit (responseAfter n p l k w r) i ≡ bit r i
+unfolding responseAfter marked flipped
+untouched n p l k w r i h e = go (l .search) (l .complement && selected (p .key) (p .care) r)
+  where
+    search-at : bit (marked (p .target) (matches n p w r) r) i ≡ bit r i
+    search-at =
+        number-bit responseBits _ (λ j g. either-below (eqb (bit (p .target) j) 1) (digit-below (matches n p w r)) (bit-below r j)) i h
+        ∙ ap (λ (t : ℕ). pick (eqb t 1) (digit (matches n p w r)) (bit r i)) e
+
+    flip-at : bit (flipped (p .target) r) i ≡ bit r i
+    flip-at =
+        number-bit responseBits _ (λ j g. either-below (eqb (bit (p .target) j) 1) (flip-below (bit-below r j)) (bit-below r j)) i h
+        ∙ ap (λ (t : ℕ). pick (eqb t 1) (1 - bit r i) (bit r i)) e
+
+    go : (s c : Bool) → bit (pick s (marked (p .target) (matches n p w r) r) (pick c (flipped (p .target) r) r)) i ≡ bit r i
+    go true c = search-at
+    go false true = flip-at
+    go false false = refl
+
+-- neither search nor complement: no response changes
+quiet : (n : ℕ) (p : Panel) (l : Lines) (k w r : ℕ) → l .search ≡ false → l .complement ≡ false → responseAfter n p l k w r ≡ r
+unfolding responseAfter
+quiet n p l k w r e g = rw (e, g)
+
+-- bit i of each response is as it was, if the pulse's rule says so
+module _ (m : Machine) (p : Panel) (l : Lines) (h : machineCheck m ≡ Passed) where
+  kept-bit : (i : ℕ) → ((k w r : ℕ) → bit (responseAfter (m .width) p l k w r) i ≡ bit r i)
+      → (k : ℕ) → k < length (m .responses) → bit (response (pulsed m p l) k) i ≡ bit (response m k) i
+  kept-bit i f k g =
+      let s = sound m h in
+      ap (λ (r : ℕ). bit r i) (response-at m s p l k (omega (arith, g, same m s))) ∙ f k _ (response m k)
+
+  kept-by-rule : (x f : ℕ) → ((k w r : ℕ) → bit (responseAfter (m .width) p l k w r) x ≡ bit r x)
+      → ((k w r : ℕ) → bit (responseAfter (m .width) p l k w r) f ≡ bit r f) → Leaves x f m (pulsed m p l)
+  kept-by-rule x f a b = let s = sound m h in
+      record { count = responses-length m s p l ∙ sym (same m s); mark = kept-bit x a; fault = kept-bit f b }
+
+  pub spared : (x f : ℕ) → Fit x f → bit (p .target) x ≡ 0 → bit (p .target) f ≡ 0 → Leaves x f m (pulsed m p l)
+  spared x f fit a b =
+      kept-by-rule x f (λ k w r. untouched (m .width) p l k w r x (fit .mark) a) (λ k w r. untouched (m .width) p l k w r f (fit .fault) b)
+
+  silent : (x f : ℕ) → l .search ≡ false → l .complement ≡ false → Leaves x f m (pulsed m p l)
+  silent x f a b =
+      kept-by-rule x f (λ k w r. ap (λ (z : ℕ). bit z x) (quiet (m .width) p l k w r a b))
+      (λ k w r. ap (λ (z : ℕ). bit z f) (quiet (m .width) p l k w r a b))
+
+module _ (x f : ℕ) (m : Machine) (p : Panel) (l : Lines) (accepted : pulseCheck m p l ≡ Passed) where
+  machine-fine : machineCheck m ≡ Passed
+  machine-fine = passes m (clean m p l accepted .sound)
+
+  -- an accepted pulse whose target has neither bit, or that raises neither search nor complement
+  pub target-spares : Fit x f → bit (p .target) x ≡ 0 → bit (p .target) f ≡ 0 → Leaves x f m (after m p l)
+  target-spares fit a b = rw (accepted-pulse m p l accepted) (spared m p l machine-fine x f fit a b)
+
+  pub lines-spare : l .search ≡ false → l .complement ≡ false → Leaves x f m (after m p l)
+  lines-spare a b = rw (accepted-pulse m p l accepted) (silent m p l machine-fine x f a b)
+
+-- nothing changes
+pub all-left : (x f : ℕ) (m : Machine) → Leaves x f m m
+all-left x f m = record { count = refl; mark = λ k h. refl; fault = λ k h. refl }
+
+-- ---- steps: each command's target is a working bit of the job, or none
+
+module _ (o : Job) (b : ℕ) where
+  look-spares : (key care t mask comp : ℕ) → (b ≡ t → ⊥) → bit (look key care t mask comp .panel .target) b ≡ 0
+  look-spares key care t mask comp h = mask-else t b h
+
+  picked : (t : Bool) (c d : Command) → bit (c .panel .target) b ≡ 0 → bit (d .panel .target) b ≡ 0 → bit (pick t c d .panel .target) b ≡ 0
+  picked true c d h g = h
+  picked false c d h g = g
+
+  trial-spares : (k : Kind) → ApartFor k o b → bit (trial k o .panel .target) b ≡ 0
+  trial-spares greatest h = mask-else (o .y) b (h .1)
+  trial-spares smallest h = mask-else (o .y) b (h .1)
+  trial-spares scaledAdd h = mask-else (o .y) b h
+  trial-spares product h = mask-else (o .y) b h
+  trial-spares unknown h = absurd h
+
+  second-spares : (k : Kind) → ApartFor k o b → bit (second k o .panel .target) b ≡ 0
+  second-spares greatest h = mask-else (o .x) b (h .0)
+  second-spares smallest h = mask-else (o .x) b (h .0)
+  second-spares scaledAdd h = bit-none b
+  second-spares product h = bit-none b
+  second-spares unknown h = absurd h
+
+  -- phase 0 is for extremes only
+  command-spares : inTable o ≡ true → Apart o b → bit (command o .panel .target) b ≡ 0
+  unfolding command inTable
+  command-spares t h = go (kindOf (o .kind)) t h (eqb (o .phase) 0) refl
+    where
+      later : (k : Kind) → ApartFor k o b → bit (pick (eqb (o .phase) 1) (trial k o) (second k o) .panel .target) b ≡ 0
+      later k h = picked (eqb (o .phase) 1) (trial k o) (second k o) (trial-spares k h) (second-spares k h)
+
+      not-open : atPlace o ≡ true → eqb (o .phase) 0 ≡ true → ⊥
+      not-open e z =
+          let n : false ≡ true = sym (ap (λ (i : ℕ). eqb i 1 || eqb i 2) (eqb-true (o .phase) 0 z)) ∙ e in
+          let q : _≡_ {A = ℕ} 0 1 = cc in absurd (omega arith)
+
+      go : (k : Kind) → inTableFor k o ≡ true → ApartFor k o b → (u : Bool) → eqb (o .phase) 0 ≡ u
+          → bit (pick u (opening o) (pick (eqb (o .phase) 1) (trial k o) (second k o)) .panel .target) b ≡ 0
+      go k t h false e = later k h
+      go greatest t h true e = mask-else (o .x) b (h .0)
+      go smallest t h true e = mask-else (o .x) b (h .0)
+      go scaledAdd t h true e =
+          absurd (not-open (and-left (atPlace o) (ltb (o .i) (o .a .width)) (and-left (atPlace o && ltb (o .i) (o .a .width)) (ltb (o .i) (o .p .width)) t)) e)
+      go product t h true e =
+          let one = atPlace o && ltb (o .i) (o .a .width) in
+          let two = one && ltb (o .j) (o .b .width) in
+          absurd (not-open (and-left (atPlace o) (ltb (o .i) (o .a .width)) (and-left one (ltb (o .j) (o .b .width)) (and-left two (ltb (o .i + o .j) (o .p .width)) t))) e)
+      go unknown t h true e = absurd h
+
+-- an accepted step of a job that works on neither bit
+step-command : (m : Machine) (o : Job) (x f : ℕ) → Fit x f → stepCheck m (Holds o) ≡ Passed → Apart o x → Apart o f
+    → Leaves x f m (pulsed m (command o .panel) (command o .lines))
+unfolding stepCheck badHeld
+step-command m o x f fit h a b =
+    let p = else-passed (machineCheck m) _ h in
+    let t : inTable o ≡ true = not-false (inTable o) (or-right (badUsed (m .width) o || not (unusedZero o)) (not (inTable o)) (not-refused Unfit _ (p .1))) in
+    spared m (command o .panel) (command o .lines) (p .0) x f fit (command-spares o x t a) (command-spares o f t b)
+
+pub step-spares : (x f : ℕ) → Fit x f → (s : State) (o : Job) → s .held ≡ Holds o → Apart o x → Apart o f → {k : Command} {c : ℕ} {h : Held}
+    → stepOf (s .machine) (s .held) ≡ answer.Gave k c h → Leaves x f (s .machine) (stepped s .machine)
+unfolding stepped afterStep stepOf
+step-spares x f fit s o e a b {k} {c} {h} g = rw e (go (stepCheck (s .machine) (Holds o)) refl (ap (λ (h : Held). steppedBy (stepCheck (s .machine) h) (gave (s .machine) h)) (sym e) ∙ g))
+  where
+    go : (d : Check) → stepCheck (s .machine) (Holds o) ≡ d → steppedBy d (gave (s .machine) (Holds o)) ≡ answer.Gave k c h
+        → Leaves x f (s .machine) (machineAfter (steppedBy d (gave (s .machine) (Holds o))) (s .machine))
+    go Passed q r = step-command (s .machine) o x f fit q a b
+    go (Refused w) q r = all-left x f (s .machine)

@@ -1,0 +1,279 @@
+-- A round over stops: the next responder is shown, none is skipped, and each stop repeats at most one. Document 01, 'The hand-out round'.
+-- Assumes nothing.
+use Prim.Native.Nat.{ℕ, suc, _+_, _≤_, _<_}
+use mathlib.Core.Path.{_≡_, refl, sym, ap, ap₂, _∙_}
+use mathlib.Core.Logic.{_⊎_, inl, inr, ⊎-elim}
+use mathlib.Core.List.{List, [], _∷_, _++_, append-nil}
+use native.Mathlib.Omega.{arith}
+use borrow.Author.Tests.{lt-leb}
+use lib.ListN.{length, getD, drop, length-append}
+use Rattle.laws.specs.Bits.{bit}
+use Rattle.laws.proofs.Digits.{tri}
+use Rattle.machine.specs.declared.WordSlice.{WordSlice}
+use Rattle.machine.specs.declared.Found.the-variants as found
+use Rattle.machine.specs.declared.Refusal.the-variants.{Unfit}
+use Rattle.machine.specs.declared.Check.the-variants.{Passed}
+use Rattle.machine.proofs.Checks.{sound, else-passed}
+use Rattle.ends.proofs.Machines.{same}
+use Rattle.machine.specs.Machine.{Machine, machine, responseBits}
+use Rattle.machine.specs.Refusals.{refuse, machineCheck}
+use Rattle.resolver.specs.declared.Resolved.the-variants as resolved
+use Rattle.resolver.specs.Answers.{answerBy}
+use Rattle.rounds.specs.declared.Verdict.{Verdict}
+use Rattle.rounds.specs.declared.Verdict.the-variants.{Done, Faulty}
+use Rattle.rounds.specs.declared.Reply.the-variants as reply
+use Rattle.rounds.specs.Round.{badBits, bitsCheck, shown, showCheck, showOf, answerCheck, replyBy, replyOf}
+use Rattle.rounds.specs.Handout.{responders, responder, response, NotAmong, firstOf}
+use Rattle.rounds.proofs.Passing.{Fit, acceptable, accepted}
+use Rattle.rounds.proofs.Responders.{first-of-rest}
+use Rattle.rounds.proofs.Handout.{HandedOut, handed-out}
+use Rattle.jobs.specs.Runs.{State}
+use Rattle.hosts.specs.Images.{Resumes}
+use Rattle.hosts.specs.Rounds as events
+use Rattle.hosts.specs.Rounds.{Responder, lower, Phase, ready, showing, answered, pending, settled, Entry, Hosted, Again, Orderly, Shown}
+use Rattle.hosts.proofs.Images.{Typed, can-resume}
+use Rattle.hosts.proofs.Shadow.{shadow-responders, shadow-shown, shadow-fault}
+use Rattle.hosts.proofs.Counting.{responder-at, responder-is, first-left, none-left, left-none}
+use Rattle.hosts.proofs.Standing.{taken-passed, none-by, fit, shade, Kept, Standing, standing}
+
+-- of a book in order: every responder with fewer lower ones than were shown stands in it
+shown-in : (x : ℕ) (m : Machine) {book : List Entry} {many : ℕ} → Orderly x m book many → (k : ℕ) → Responder x m k → lower x m k < many → Shown k book
+shown-in x m events.nothing-yet k r l = absurd (omega arith)
+shown-in x m (events.next {book} {many} {k = j} o q e) k r l = ⊎-elim (λ g. events.before (shown-in x m o k r g)) (⊎-elim here (λ g. absurd (omega arith))) (tri (lower x m k) many)
+  where
+    here : lower x m k ≡ many → Shown k (events.shown j ∷ book)
+    here g =
+        let i : j ≡ k = sym (responder-is x m j q .1) ∙ ap (responder x m) (e ∙ sym g) ∙ responder-is x m k r .1 in
+        rw i events.last
+shown-in x m (events.again o a) k r l = events.before (shown-in x m o k r l)
+shown-in x m (events.stop o) k r l = events.before (shown-in x m o k r l)
+
+one-word : (k j : WordSlice) → found.At k ≡ found.At j → k .0 ≡ j .0
+one-word k j e = cc
+
+module _ (x f : ℕ) (b : State) (fine : bitsCheck (badBits x f) (b .machine) ≡ Passed) (typed : Typed b) where
+  abbrev Stands : State → List ℕ → Phase → List Verdict → Type 0
+  Stands s image phase vs = Standing x f b fine typed s image phase vs
+
+  round-fit : Fit x f
+  round-fit = fit x f b fine typed
+
+  -- show is not turned down
+  show-accepted : {s : State} {image : List ℕ} {phase : Phase} {vs : List Verdict} → Stands s image phase vs → showCheck x (s .machine) ≡ Passed
+  unfolding bitsCheck
+  show-accepted w = rw (w .passes, lt-leb responseBits x (round-fit .mark))
+
+  -- what the answers given make of the first image's marks
+  module _ {s : State} {image : List ℕ} {phase : Phase} {vs : List Verdict} (w : Stands s image phase vs) where
+    out : HandedOut x f (vs ++ pending phase) (shade x f b fine typed (b .machine)) (shade x f b fine typed (s .machine))
+    out = handed-out (w .trail)
+
+    next-shown : shown x (s .machine) ≡ firstOf (drop (length (vs ++ pending phase)) (responders x (b .machine)))
+    next-shown =
+        sym (shadow-shown x f round-fit (b .machine) (s .machine)) ∙ out .next
+        ∙ ap (λ (ks : List ℕ). firstOf (drop (length (vs ++ pending phase)) ks)) (shadow-responders x f round-fit (b .machine) (b .machine))
+
+    enough : length (vs ++ pending phase) ≤ length (responders x (b .machine))
+    enough = rw (shadow-responders x f round-fit (b .machine) (b .machine)) at (out .enough)
+
+    responder-shade : (i : ℕ) → responder x (shade x f b fine typed (b .machine)) i ≡ responder x (b .machine) i
+    responder-shade i = ap (λ (ks : List ℕ). getD ks i 0) (shadow-responders x f round-fit (b .machine) (b .machine))
+
+    fault-now : (i : ℕ) → bit (response (shade x f b fine typed (s .machine)) (responder x (shade x f b fine typed (b .machine)) i)) f
+        ≡ bit (response (s .machine) (responder x (b .machine) i)) f
+    fault-now i =
+        shadow-fault x f round-fit (b .machine) (s .machine) (responder x (shade x f b fine typed (b .machine)) i)
+        ∙ ap (λ (k : ℕ). bit (response (s .machine) k) f) (responder-shade i)
+
+    fault-first : (i : ℕ) → bit (response (shade x f b fine typed (b .machine)) (responder x (shade x f b fine typed (b .machine)) i)) f
+        ≡ bit (response (b .machine) (responder x (b .machine) i)) f
+    fault-first i =
+        shadow-fault x f round-fit (b .machine) (b .machine) (responder x (shade x f b fine typed (b .machine)) i)
+        ∙ ap (λ (k : ℕ). bit (response (b .machine) k) f) (responder-shade i)
+
+  -- ---- a word that is shown
+
+  shown-turn : {s : State} {image : List ℕ} {k : ℕ} {vs : List Verdict} → Stands s image (showing k) vs
+      → (length vs < length (responders x (b .machine))) × (responder x (b .machine) (length vs) ≡ k)
+  shown-turn {s} {image} {k} {vs} w =
+      let p = first-of-rest (record { 0 = k }) (length (vs ++ [])) (responders x (b .machine)) (sym (next-shown w) ∙ w .word k refl) in
+      rw (append-nil vs) at p
+
+  pub was-next : {s : State} {image : List ℕ} {k : ℕ} {vs : List Verdict} {book : List Entry} → Hosted x f b s image (showing k) vs book
+      → Responder x (b .machine) k × (lower x (b .machine) k ≡ length vs)
+  was-next {s} {image} {k} {vs} h =
+      let p = shown-turn (standing x f b fine typed h) in
+      let q = responder-at x (b .machine) (length vs) (p .0) in
+      rw (p .1) at q
+
+  -- ---- ready to show
+
+  module _ {s : State} {image : List ℕ} {vs : List Verdict} {book : List Entry} (h : Hosted x f b s image ready vs book) where
+    stands : Stands s image ready vs
+    stands = standing x f b fine typed h
+
+    counted : length (vs ++ []) ≡ length vs
+    counted = ap length (append-nil vs)
+
+    to-show : shown x (s .machine) ≡ firstOf (drop (length vs) (responders x (b .machine)))
+    to-show = next-shown stands ∙ ap (λ (i : ℕ). firstOf (drop i (responders x (b .machine)))) counted
+
+    pub is-next : (k : ℕ) → Responder x (b .machine) k → lower x (b .machine) k ≡ length vs → showOf x (s .machine) ≡ resolved.At (record { 0 = k })
+    unfolding showOf
+    is-next k r e =
+        let p = responder-is x (b .machine) k r in
+        let l : length vs < length (responders x (b .machine)) = omega (arith, p .0, e) in
+        let i : responder x (b .machine) (length vs) ≡ k = ap (responder x (b .machine)) (sym e) ∙ p .1 in
+        ap₂ answerBy (show-accepted stands)
+        (to-show ∙ first-left (responders x (b .machine)) (length vs) l ∙ ap (λ (j : ℕ). found.At (record { 0 = j })) i)
+
+    -- the round ends after as many stored answers as there were responders, and not before
+    pub ends : showOf x (s .machine) ≡ resolved.Nothing → length vs ≡ length (responders x (b .machine))
+    unfolding showOf
+    ends e =
+        let n = none-left (responders x (b .machine)) (length vs) (sym to-show ∙ none-by (showCheck x (s .machine)) (shown x (s .machine)) e) in
+        let l = enough stands in
+        omega (arith, n, l, counted)
+
+    pub over : length vs ≡ length (responders x (b .machine)) → showOf x (s .machine) ≡ resolved.Nothing
+    unfolding showOf
+    over e = ap₂ answerBy (show-accepted stands) (to-show ∙ left-none (responders x (b .machine)) (length vs) (omega (arith, e)))
+
+    -- F: of those answered, and stored
+    pub faulty-has : (i : ℕ) → i < length vs → getD vs i Done ≡ Faulty → bit (response (s .machine) (responder x (b .machine) i)) f ≡ 1
+    faulty-has i l e =
+        sym (fault-now stands i)
+        ∙ out stands .faulty-marked i (omega (arith, l, counted)) (ap (λ (us : List Verdict). getD us i Done) (append-nil vs) ∙ e)
+
+    pub done-has : (i : ℕ) → i < length vs → getD vs i Done ≡ Done
+        → bit (response (s .machine) (responder x (b .machine) i)) f ≡ bit (response (b .machine) (responder x (b .machine) i)) f
+    done-has i l e =
+        sym (fault-now stands i)
+        ∙ out stands .done-unmarked i (omega (arith, l, counted)) (ap (λ (us : List Verdict). getD us i Done) (append-nil vs) ∙ e)
+        ∙ fault-first stands i
+
+    pub others-have : (j : ℕ) → NotAmong (responders x (b .machine)) (length vs) j → bit (response (s .machine) j) f ≡ bit (response (b .machine) j) f
+    others-have j none =
+        sym (shadow-fault x f round-fit (b .machine) (s .machine) j)
+        ∙ ap (λ (r : ℕ). bit r f) (out stands .other-words j (λ i l e. none i (omega (arith, l, counted)) (sym (responder-shade stands i) ∙ e)))
+        ∙ shadow-fault x f round-fit (b .machine) (b .machine) j
+
+  -- ---- never stuck
+
+  bits-fine : {s : State} {image : List ℕ} {phase : Phase} {vs : List Verdict} → Stands s image phase vs → bitsCheck (badBits x f) (s .machine) ≡ Passed
+  unfolding bitsCheck
+  bits-fine w = rw (w .passes) (else-passed (machineCheck (b .machine)) (refuse Unfit (badBits x f)) fine .1)
+
+  -- the word that is shown can be answered, either way
+  pub answerable : {s : State} {image : List ℕ} {k : ℕ} {vs : List Verdict} {book : List Entry} → Hosted x f b s image (showing k) vs book
+      → replyOf x f (record { 0 = k }) (s .machine) ≡ reply.Taken
+  unfolding replyOf
+  answerable {s} {image} {k} h =
+      let w = standing x f b fine typed h in
+      ap replyBy (acceptable x f (record { 0 = k }) (s .machine) (bits-fine w) (w .word k refl))
+
+  -- and no other word's answer is taken
+  pub taken-is-shown : {s : State} {image : List ℕ} {j : ℕ} {vs : List Verdict} {book : List Entry} → Hosted x f b s image (showing j) vs book
+      → (k : WordSlice) → replyOf x f k (s .machine) ≡ reply.Taken → k .0 ≡ j
+  unfolding replyOf
+  taken-is-shown {s} {image} {j} h k e =
+      let p = accepted x f k (s .machine) (taken-passed (answerCheck x f k (s .machine)) e) .word in
+      one-word k (record { 0 = j }) (sym p ∙ standing x f b fine typed h .word j refl)
+
+  first-size : length (b .machine .responses) ≡ length (b .machine .words)
+  unfolding bitsCheck
+  first-size = same (b .machine) (sound (b .machine) (else-passed (machineCheck (b .machine)) (refuse Unfit (badBits x f)) fine .0))
+
+  from-kept : {image : List ℕ} {vs : List Verdict} → Kept x f b fine typed image vs
+      → (words responses : List ℕ) → length (b .machine .words) ≤ length words → length (b .machine .words) ≤ length responses
+      → (t : State) × Resumes image t
+  from-kept i words responses l g =
+      let e = same (i .state .machine) (sound (i .state .machine) (i .stored .machine)) in
+      let n : length (i .state .machine .words) ≡ length (b .machine .words) = sym e ∙ i .size ∙ first-size in
+      (i .state, rw (i .is) (can-resume (i .state) (i .stored) words responses (omega (arith, l, n)) (omega (arith, g, n))))
+
+  -- the last stored image can be resumed, into any destinations that are long enough
+  pub resumable : {s : State} {image : List ℕ} {phase : Phase} {vs : List Verdict} {book : List Entry} → Hosted x f b s image phase vs book
+      → (words responses : List ℕ) → length (b .machine .words) ≤ length words → length (b .machine .words) ≤ length responses
+      → (t : State) × Resumes image t
+  resumable h words responses l g = from-kept (standing x f b fine typed h .kept) words responses l g
+
+  -- ---- the book
+
+  -- word k is in hand: shown last, and not stored; and, after a stop, to be shown again
+  record InHand (k : ℕ) (vs : List Verdict) (book : List Entry) : Type 0 where
+    pub orderly : Orderly x (b .machine) book (suc (length vs))
+    pub earlier : List Entry
+    pub top : book ≡ events.shown k ∷ earlier
+    pub turn : responder x (b .machine) (length vs) ≡ k
+
+  record Lost (k : ℕ) (vs : List Verdict) (book : List Entry) : Type 0 where
+    pub orderly : Orderly x (b .machine) book (suc (length vs))
+    pub due : Again k book
+    pub turn : responder x (b .machine) (length vs) ≡ k
+
+  Booked : Phase → List Verdict → List Entry → Type 0
+  Booked ready vs book = Orderly x (b .machine) book (length vs) ⊎ ((k : ℕ) × Lost k vs book)
+  Booked (showing k) vs book = InHand k vs book
+  Booked (answered v) vs book = (k : ℕ) × InHand k vs book
+
+  book-show : (k : ℕ) (vs : List Verdict) (book : List Entry) → length vs < length (responders x (b .machine)) → responder x (b .machine) (length vs) ≡ k
+      → Booked ready vs book → InHand k vs (events.shown k ∷ book)
+  unfolding Booked
+  book-show k vs book l e (inl o) =
+      let r = responder-at x (b .machine) (length vs) l in
+      record { orderly = events.next o (rw e at (r .0)) (rw e at (r .1)); earlier = book; top = refl; turn = e }
+  book-show k vs book l e (inr (j, p)) =
+      let q : j ≡ k = sym (p .turn) ∙ e in
+      record { orderly = events.again (p .orderly) (rw q at (p .due)); earlier = book; top = refl; turn = e }
+
+  book-store : (phase : Phase) (vs : List Verdict) (book : List Entry) → Booked phase vs book → Booked (settled phase) (vs ++ pending phase) book
+  unfolding Booked
+  book-store ready vs book h = rw (append-nil vs) h
+  book-store (showing k) vs book h = rw (append-nil vs) h
+  book-store (answered v) vs book (k, h) =
+      let n : length (vs ++ (v ∷ [])) ≡ suc (length vs) = length-append vs (v ∷ []) ∙ omega arith in inl (rw n (h .orderly))
+
+  hand-lost : (k : ℕ) (vs : List Verdict) (book : List Entry) → InHand k vs book → Lost k vs (events.stopped ∷ book)
+  hand-lost k vs book h =
+      record { orderly = events.stop (h .orderly); due = rw (h .top) events.stopped-once; turn = h .turn }
+
+  book-stop : (phase : Phase) (vs : List Verdict) (book : List Entry) → Booked phase vs book → Booked ready vs (events.stopped ∷ book)
+  unfolding Booked
+  book-stop ready vs book (inl o) = inl (events.stop o)
+  book-stop ready vs book (inr (k, p)) = inr (k, record { orderly = events.stop (p .orderly); due = events.stopped-more (p .due); turn = p .turn })
+  book-stop (showing k) vs book h = inr (k, hand-lost k vs book h)
+  book-stop (answered v) vs book (k, h) = inr (k, hand-lost k vs book h)
+
+  booked : {s : State} {image : List ℕ} {phase : Phase} {vs : List Verdict} {book : List Entry} → Hosted x f b s image phase vs book → Booked phase vs book
+  unfolding Booked
+  booked (events.opens w) = inl events.nothing-yet
+  booked (events.shows {s} {image} {vs} {book} {k} h e) =
+      let g : Hosted x f b s image (showing (k .0)) vs (events.shown (k .0) ∷ book) = events.shows h e in
+      let p = shown-turn (standing x f b fine typed g) in
+      book-show (k .0) vs book (p .0) (p .1) (booked h)
+  booked (events.answers {j = j} h k v e) = (j, booked h)
+  booked (events.refused h k v e) = booked h
+  booked (events.stores {phase = phase} {vs} {book} h w) = book-store phase vs book (booked h)
+  booked (events.stops {phase = phase} {vs} {book} h r) = book-stop phase vs book (booked h)
+  booked (events.others h o l) = booked h
+
+  -- each word shown was the next responder, or the last one again after a stop: as many have been shown as answers are stored, or one more
+  pub in-order : {s : State} {image : List ℕ} {phase : Phase} {vs : List Verdict} {book : List Entry} → Hosted x f b s image phase vs book
+      → (many : ℕ) × ((length vs ≤ many) × (many ≤ length vs + 1) × Orderly x (b .machine) book many)
+  unfolding Booked
+  in-order {s} {image} {phase} {vs} {book} h = go phase (booked h)
+    where
+      one : Orderly x (b .machine) book (suc (length vs)) → (many : ℕ) × ((length vs ≤ many) × (many ≤ length vs + 1) × Orderly x (b .machine) book many)
+      one o = (suc (length vs), (omega arith, omega arith, o))
+
+      go : (phase : Phase) → Booked phase vs book → (many : ℕ) × ((length vs ≤ many) × (many ≤ length vs + 1) × Orderly x (b .machine) book many)
+      go ready (inl o) = (length vs, (omega arith, omega arith, o))
+      go ready (inr (k, p)) = one (p .orderly)
+      go (showing k) p = one (p .orderly)
+      go (answered v) (k, p) = one (p .orderly)
+
+  -- none is skipped
+  pub none-skipped : {s : State} {image : List ℕ} {phase : Phase} {vs : List Verdict} {book : List Entry} → Hosted x f b s image phase vs book
+      → (k : ℕ) → Responder x (b .machine) k → lower x (b .machine) k < length vs → Shown k book
+  none-skipped h k r l = let o = in-order h in shown-in x (b .machine) (o .1 .2) k r (omega (arith, l, o .1 .0))

@@ -1,0 +1,227 @@
+-- A round over stops: what stands after any events. Document 01, 'The hand-out round'.
+-- The argument: the machine's X and F bits are those that the stored answers, and the one not stored, make of the first image's, and the last stored
+-- image has those of the stored answers.
+-- Assumes nothing.
+use Prim.Native.Nat.{ℕ, zero, suc, _<_}
+use mathlib.Core.Path.{_≡_, refl, sym, ap, _∙_}
+use mathlib.Core.List.{List, [], _∷_, _++_, append-nil}
+use native.Mathlib.Omega.{arith}
+use lib.ListN.{length, set, length-set}
+use Rattle.machine.specs.declared.WordSlice.{WordSlice}
+use Rattle.machine.specs.declared.Found.{Found}
+use Rattle.machine.specs.declared.Found.the-variants as found
+use Rattle.machine.specs.declared.Refusal.{Refusal}
+use Rattle.machine.specs.declared.Refusal.the-variants.{Size, Width}
+use Rattle.machine.specs.declared.Check.{Check}
+use Rattle.machine.specs.declared.Check.the-variants.{Passed, Refused}
+use Rattle.machine.specs.Machine.{Machine, machine}
+use Rattle.machine.specs.Refusals.{badSize, badWidth, tooWide, _else_, refuse, refuseWord, changeBy, machineCheck}
+use Rattle.machine.specs.Resolution.{lowest}
+use Rattle.resolver.specs.declared.Resolved.the-variants as resolved
+use Rattle.resolver.specs.Answers.{answerBy}
+use Rattle.rounds.specs.declared.Verdict.{Verdict}
+use Rattle.rounds.specs.declared.Verdict.the-variants.{Done, Faulty}
+use Rattle.rounds.specs.declared.Reply.the-variants as reply
+use Rattle.rounds.specs.Round as round
+use Rattle.rounds.specs.Round.{put, badBits, bitsCheck, shown, showCheck, showOf, answeredAt, answerCheck, replyBy, replyOf, afterAnswer}
+use Rattle.rounds.specs.Handout.{response, Answers, none-yet, one-more}
+use Rattle.rounds.proofs.Marks.{put-lt}
+use Rattle.rounds.proofs.Passing.{Fit, bits-fit}
+use Rattle.rounds.proofs.Handout.{refused-nothing}
+use Rattle.jobs.specs.Runs.{State}
+use Rattle.image.specs.Format.{imageOf}
+use Rattle.image.proofs.Bytes.{AreBytes}
+use Rattle.image.proofs.RoundTrip.{Stored}
+use Rattle.hosts.specs.Images.{Stores, Resumes}
+use Rattle.hosts.specs.Rounds as events
+use Rattle.hosts.specs.Rounds.{Other, Leaves, Phase, ready, showing, answered, pending, settled, Entry, Hosted}
+use Rattle.hosts.proofs.Images.{Typed, stored-image, resumed-machine}
+use Rattle.hosts.proofs.Shadow.{shadow, shadow-shown, shadow-left, shadow-taken, shadow-after}
+use Rattle.hosts.proofs.Leaving.{other-passes, other-typed}
+
+-- ---- checks taken apart
+
+pub taken-passed : (c : Check) → replyBy c ≡ reply.Taken → c ≡ Passed
+taken-passed Passed h = refl
+taken-passed (Refused r) h = cc
+
+refused-by : (c : Check) (r : Refusal) → replyBy c ≡ reply.Refused r → c ≡ Refused r
+refused-by Passed r h = cc
+refused-by (Refused w) r h = cc
+
+shown-by : (c : Check) (w : Found) (k : WordSlice) → answerBy c w ≡ resolved.At k → (c ≡ Passed) × (w ≡ found.At k)
+shown-by Passed (found.At j) k h = (refl, cc)
+shown-by Passed found.Nothing k h = (refl, cc)
+shown-by (Refused r) w k h = (cc, cc)
+
+pub none-by : (c : Check) (w : Found) → answerBy c w ≡ resolved.Nothing → w ≡ found.Nothing
+none-by Passed (found.At j) h = cc
+none-by Passed found.Nothing h = refl
+none-by (Refused r) w h = cc
+
+same-word : (k j : ℕ) → showing k ≡ showing j → k ≡ j
+same-word k j e = cc
+
+-- ---- an answer keeps what the checks look at, and bytes
+
+same-machine : (n : ℕ) (ws rs qs : List ℕ) → length qs ≡ length rs → machineCheck (machine n ws qs) ≡ machineCheck (machine n ws rs)
+unfolding machineCheck
+same-machine n ws rs qs e =
+    ap (λ (k : ℕ). refuse Size (badSize (length ws) k) else refuse Width (badWidth n) else refuseWord (lowest (tooWide n) 0 ws)) e
+
+answered-machine : (x f : ℕ) (m : Machine) (k : WordSlice) (v : Verdict) → answerCheck x f k m ≡ Passed → afterAnswer x f k v m ≡ answeredAt x f k v m
+unfolding afterAnswer
+answered-machine x f m k v p = ap (λ (c : Check). changeBy c (answeredAt x f k v m) m) p
+
+set-bytes : (rs : List ℕ) (k v : ℕ) → AreBytes rs → v < 256 → AreBytes (set rs k v)
+set-bytes [] k v h g = tt
+set-bytes (r ∷ rs) zero v h g = (g, h .1)
+set-bytes (r ∷ rs) (suc k) v h g = (h .0, set-bytes rs k v (h .1) g)
+
+answered-byte : (x f : ℕ) (v : Verdict) (r : ℕ) → round.answered x f v r < 256
+answered-byte x f Done r = put-lt x 0 r (omega arith)
+answered-byte x f Faulty r = put-lt f 1 (put x 0 r) (omega arith)
+
+module _ (x f : ℕ) (b : State) (fine : bitsCheck (badBits x f) (b .machine) ≡ Passed) (typed : Typed b) where
+  pub fit : Fit x f
+  fit = bits-fit x f (b .machine) fine
+
+  -- the machine's X and F bits alone
+  abbrev pub shade : Machine → Machine
+  shade m = shadow x f fit (b .machine) m
+
+  -- ---- what every course of events keeps
+
+  pub record Kept (image : List ℕ) (vs : List Verdict) : Type 0 where
+    pub state : State
+    pub is : image ≡ imageOf state
+    pub stored : Stored state
+    pub size : length (state .machine .responses) ≡ length (b .machine .responses)
+    pub trail : Answers x f (shade (b .machine)) vs (shade (state .machine))
+
+  pub record Standing (s : State) (image : List ℕ) (phase : Phase) (vs : List Verdict) : Type 0 where
+    pub passes : machineCheck (s .machine) ≡ Passed
+    pub kinds : Typed s
+    pub size : length (s .machine .responses) ≡ length (b .machine .responses)
+    pub trail : Answers x f (shade (b .machine)) (vs ++ pending phase) (shade (s .machine))
+    pub kept : Kept image vs
+    pub word : (k : ℕ) → phase ≡ showing k → shown x (s .machine) ≡ found.At (record { 0 = k })
+
+  opened : (image : List ℕ) → Stores b image → Standing b image ready []
+  opened image w =
+      let p = stored-image typed w in
+      record {
+        passes = p .0 .machine;
+        kinds = typed;
+        size = refl;
+        trail = none-yet;
+        kept = record { state = b; is = p .1; stored = p .0; size = refl; trail = none-yet };
+        word = λ k e. absurd (let z : _≡_ {A = ℕ} 0 1 = cc in omega arith);
+      }
+
+  show-word : (s : State) (image : List ℕ) (vs : List Verdict) (k : WordSlice) → Standing s image ready vs → showOf x (s .machine) ≡ resolved.At k
+      → Standing s image (showing (k .0)) vs
+  unfolding showOf
+  show-word s image vs k w h =
+      let p = shown-by (showCheck x (s .machine)) (shown x (s .machine)) k h in
+      record {
+        passes = w .passes;
+        kinds = w .kinds;
+        size = w .size;
+        trail = w .trail;
+        kept = w .kept;
+        word = λ j e. p .1 ∙ ap (λ (i : ℕ). found.At (record { 0 = i })) (same-word (k .0) j e);
+      }
+
+  after-answer : State → WordSlice → Verdict → State
+  after-answer s k v = record { machine = afterAnswer x f k v (s .machine); held = s .held }
+
+  answer-word : (s : State) (image : List ℕ) (j : ℕ) (vs : List Verdict) (k : WordSlice) (v : Verdict) → Standing s image (showing j) vs
+      → replyOf x f k (s .machine) ≡ reply.Taken → Standing (after-answer s k v) image (answered v) vs
+  unfolding replyOf after-answer
+  answer-word s image j vs k v w h =
+      let m = s .machine in
+      let p = taken-passed (answerCheck x f k m) h in
+      let e : afterAnswer x f k v m ≡ answeredAt x f k v m = answered-machine x f m k v p in
+      let one = one-more k v (w .trail) (shadow-taken x f fit (b .machine) fine m (w .size) k p) in
+      record {
+        passes = ap machineCheck e ∙ same-machine (m .width) (m .words) (m .responses) _ (length-set (m .responses) (k .0) _) ∙ w .passes;
+        kinds = record {
+          responses = rw e (set-bytes (m .responses) (k .0) _ (w .kinds .responses) (answered-byte x f v (response m (k .0))));
+          constant = w .kinds .constant;
+        };
+        size = ap (λ (z : Machine). length (z .responses)) e ∙ length-set (m .responses) (k .0) _ ∙ w .size;
+        trail = rw (shadow-after x f fit (b .machine) fine m (w .size) k p v, ← (append-nil vs)) one;
+        kept = w .kept;
+        word = λ i q. absurd (let z : _≡_ {A = ℕ} 0 1 = cc in omega arith);
+      }
+
+  -- nothing changes
+  refuse-word : (s : State) (image : List ℕ) (phase : Phase) (vs : List Verdict) (k : WordSlice) (v : Verdict) (r : Refusal) → Standing s image phase vs
+      → replyOf x f k (s .machine) ≡ reply.Refused r → Standing (after-answer s k v) image phase vs
+  unfolding replyOf after-answer
+  refuse-word s image phase vs k v r w h =
+      let e : after-answer s k v ≡ s =
+      ap (λ (z : Machine). record { machine = z; held = s .held }) (refused-nothing x f k v (s .machine) r (refused-by (answerCheck x f k (s .machine)) r h)) in
+      rw e w
+
+  store-word : (s : State) (image new : List ℕ) (phase : Phase) (vs : List Verdict) → Standing s image phase vs → Stores s new
+      → Standing s new (settled phase) (vs ++ pending phase)
+  store-word s image new phase vs w h =
+      let p = stored-image (w .kinds) h in
+      record {
+        passes = w .passes;
+        kinds = w .kinds;
+        size = w .size;
+        trail = rw (nothing-pending phase, append-nil (vs ++ pending phase)) (w .trail);
+        kept = record { state = s; is = p .1; stored = p .0; size = w .size; trail = w .trail };
+        word = λ k e. w .word k (still-shown phase k e);
+      }
+    where
+      nothing-pending : (phase : Phase) → pending (settled phase) ≡ []
+      nothing-pending ready = refl
+      nothing-pending (showing k) = refl
+      nothing-pending (answered v) = refl
+
+      still-shown : (phase : Phase) (k : ℕ) → settled phase ≡ showing k → phase ≡ showing k
+      still-shown ready k e = e
+      still-shown (showing j) k e = e
+      still-shown (answered v) k e = cc
+
+  stop-word : (s t : State) (image : List ℕ) (phase : Phase) (vs : List Verdict) → Standing s image phase vs → Resumes image t → Standing t image ready vs
+  stop-word s t image phase vs w r =
+      let i = w .kept in
+      let e : t ≡ i .state = resumed-machine (i .state) (i .stored) (rw (← (i .is)) r) in
+      rw e (record {
+        passes = i .stored .machine;
+        kinds = record { responses = i .stored .responses; constant = i .stored .constant };
+        size = i .size;
+        trail = rw (append-nil vs) (i .trail);
+        kept = w .kept;
+        word = λ k q. absurd (let z : _≡_ {A = ℕ} 0 1 = cc in omega arith);
+      })
+
+  other-word : (s t : State) (image : List ℕ) (phase : Phase) (vs : List Verdict) → Standing s image phase vs → Other s t
+      → Leaves x f (s .machine) (t .machine) → Standing t image phase vs
+  other-word s t image phase vs w o l =
+      let e = shadow-left x f fit (b .machine) (s .machine) (t .machine) l in
+      record {
+        passes = other-passes o (w .passes);
+        kinds = other-typed o (w .kinds);
+        size = l .count ∙ w .size;
+        trail = rw e (w .trail);
+        kept = w .kept;
+        word = λ k q.
+            sym (shadow-shown x f fit (b .machine) (t .machine)) ∙ ap (shown x) e ∙ shadow-shown x f fit (b .machine) (s .machine) ∙ w .word k q;
+      }
+
+  pub standing : {s : State} {image : List ℕ} {phase : Phase} {vs : List Verdict} {book : List Entry} → Hosted x f b s image phase vs book
+      → Standing s image phase vs
+  unfolding after-answer
+  standing (events.opens w) = opened _ w
+  standing (events.shows {s} {image} {k = k} h e) = show-word s image _ k (standing h) e
+  standing (events.answers {s} {image} {j = j} h k v e) = answer-word s image j _ k v (standing h) e
+  standing (events.refused {s} {image} {phase = phase} {r = r} h k v e) = refuse-word s image phase _ k v r (standing h) e
+  standing (events.stores {s} {image} {phase = phase} h w) = store-word s image _ phase _ (standing h) w
+  standing (events.stops {s} {t} {image} {phase = phase} h r) = stop-word s t image phase _ (standing h) r
+  standing (events.others {s} {t} {image} {phase = phase} h o l) = other-word s t image phase _ (standing h) o l

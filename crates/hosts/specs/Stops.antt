@@ -1,0 +1,33 @@
+-- Document 01, 'Jobs' and 'The image': a job worked by steps, with images stored and stops in between.
+-- Assumes nothing.
+use Prim.Native.Nat.{ℕ, suc}
+use mathlib.Core.Path.{_≡_}
+use mathlib.Core.List.{List, [], _∷_}
+use Rattle.jobs.specs.declared.Held.{Held}
+use Rattle.jobs.specs.declared.Command.{Command}
+use Rattle.jobs.specs.declared.Stepped.the-variants as answer
+use Rattle.jobs.specs.Calls.{stepOf}
+use Rattle.jobs.specs.Runs.{State, stepped}
+use Rattle.hosts.specs.Images.{Stores, Resumes}
+
+-- a stored image, and how many pulses of the job stood behind it
+pub record Kept : Type 0 where
+  pub image : List ℕ
+  pub pulses : ℕ
+
+-- one of a list
+pub data In (i : Kept) : List Kept → Type 0 where
+  here : {is : List Kept} → In i (i ∷ is)
+  there : {j : Kept} {is : List Kept} → In i is → In i (j ∷ is)
+
+-- `Worked b k s images`: from b the host has given steps, stored these images, and stopped and resumed from any of them, in any order and number;
+-- nothing else has changed width, words, responses or job. Now s stands, and k pulses stand behind it: those given since b, or, after a stop,
+-- since b up to the image that was read
+pub data Worked (b : State) : ℕ → State → List Kept → Type 0 where
+  begun : Worked b 0 b []
+  gave : {k : ℕ} {s : State} {images : List Kept} {c : Command} {n : ℕ} {h : Held} → Worked b k s images
+      → stepOf (s .machine) (s .held) ≡ answer.Gave c n h → Worked b (suc k) (stepped s) images
+  stored : {k : ℕ} {s : State} {images : List Kept} {image : List ℕ} → Worked b k s images → Stores s image
+      → Worked b k s (record { image = image; pulses = k } ∷ images)
+  resumed : {k : ℕ} {s t : State} {images : List Kept} {i : Kept} → Worked b k s images → In i images → Resumes (i .image) t
+      → Worked b (i .pulses) t images
