@@ -44,7 +44,7 @@ use Rattle.hosts.proofs.Fits.{pulsed-passes}
 
 -- ---- the machine that each leaves
 
-accepted-pulse : (m : Machine) (p : Panel) (l : Lines) → pulseCheck m p l ≡ Passed → after m p l ≡ pulsed m p l
+pub accepted-pulse : (m : Machine) (p : Panel) (l : Lines) → pulseCheck m p l ≡ Passed → after m p l ≡ pulsed m p l
 unfolding after
 accepted-pulse m p l h = ap (λ (c : Check). changeBy c (pulsed m p l) m) h
 

@@ -1,11 +1,12 @@
 -- Over many calls: what a host stored is what it resumes (Images), jobs over stops (Jobs), rounds over stops (Standing, Rounds), and the calls that
--- leave a round alone (Leaving); the rest leads up to them.
+-- leave a round alone (Leaving) and the held job in order (Staying); the rest leads up to them.
 pub mod Images
 pub mod Typed
 pub mod Fits
+pub mod Jobs
+pub mod Leaving
+pub mod Staying
 pub mod Shadow
 pub mod Counting
-pub mod Leaving
 pub mod Standing
 pub mod Rounds
-pub mod Jobs

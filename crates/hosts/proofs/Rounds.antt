@@ -28,10 +28,11 @@ use Rattle.rounds.proofs.Passing.{Fit, acceptable, accepted}
 use Rattle.rounds.proofs.Responders.{first-of-rest}
 use Rattle.rounds.proofs.Handout.{HandedOut, handed-out}
 use Rattle.jobs.specs.Runs.{State}
-use Rattle.hosts.specs.Images.{Resumes}
+use Rattle.image.specs.Format.{imageOf}
+use Rattle.hosts.specs.Images.{Stores, Resumes}
 use Rattle.hosts.specs.Rounds as events
 use Rattle.hosts.specs.Rounds.{Responder, lower, Phase, ready, showing, answered, pending, settled, Entry, Hosted, Again, Orderly, Shown}
-use Rattle.hosts.proofs.Images.{Typed, can-resume}
+use Rattle.hosts.proofs.Images.{Typed, can-store, can-resume}
 use Rattle.hosts.proofs.Shadow.{shadow-responders, shadow-shown, shadow-fault}
 use Rattle.hosts.proofs.Counting.{responder-at, responder-is, first-left, none-left, left-none}
 use Rattle.hosts.proofs.Standing.{taken-passed, none-by, fit, shade, Kept, Standing, standing}
@@ -179,6 +180,13 @@ module _ (x f : ℕ) (b : State) (fine : bitsCheck (badBits x f) (b .machine) �
   taken-is-shown {s} {image} {j} h k e =
       let p = accepted x f k (s .machine) (taken-passed (answerCheck x f k (s .machine)) e) .word in
       one-word k (record { 0 = j }) (sym p ∙ standing x f b fine typed h .word j refl)
+
+  -- what stands can be stored in any output that is long enough
+  pub storable-round : {s : State} {image : List ℕ} {phase : Phase} {vs : List Verdict} {book : List Entry} → Hosted x f b s image phase vs book
+      → (output : List ℕ) → length (imageOf s) ≤ length output → Stores s (imageOf s)
+  storable-round {s} h =
+      let w = standing x f b fine typed h in
+      can-store s (record { machine = w .passes; job = w .job; responses = w .kinds .responses; constant = w .kinds .constant })
 
   first-size : length (b .machine .responses) ≡ length (b .machine .words)
   unfolding bitsCheck

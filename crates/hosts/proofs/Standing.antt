@@ -4,6 +4,7 @@
 -- Assumes nothing.
 use Prim.Native.Nat.{ℕ, zero, suc, _<_}
 use mathlib.Core.Path.{_≡_, refl, sym, ap, _∙_}
+use mathlib.Core.Bool.{false}
 use mathlib.Core.List.{List, [], _∷_, _++_, append-nil}
 use native.Mathlib.Omega.{arith}
 use lib.ListN.{length, set, length-set}
@@ -38,6 +39,8 @@ use Rattle.hosts.specs.Rounds.{Other, Leaves, Phase, ready, showing, ans
 use Rattle.hosts.proofs.Images.{Typed, stored-image, resumed-machine}
 use Rattle.hosts.proofs.Shadow.{shadow, shadow-shown, shadow-left, shadow-taken, shadow-after}
 use Rattle.hosts.proofs.Leaving.{other-passes, other-typed}
+use Rattle.hosts.proofs.Staying.{other-job}
+use Rattle.image.specs.Calls.{badJob}
 
 -- ---- checks taken apart
 
@@ -102,6 +105,7 @@ module _ (x f : ℕ) (b : State) (fine : bitsCheck (badBits x f) (b .machine) �
   pub record Standing (s : State) (image : List ℕ) (phase : Phase) (vs : List Verdict) : Type 0 where
     pub passes : machineCheck (s .machine) ≡ Passed
     pub kinds : Typed s
+    pub job : badJob (s .machine .width) (s .held) ≡ false
     pub size : length (s .machine .responses) ≡ length (b .machine .responses)
     pub trail : Answers x f (shade (b .machine)) (vs ++ pending phase) (shade (s .machine))
     pub kept : Kept image vs
@@ -113,6 +117,7 @@ module _ (x f : ℕ) (b : State) (fine : bitsCheck (badBits x f) (b .machine) �
       record {
         passes = p .0 .machine;
         kinds = typed;
+        job = p .0 .job;
         size = refl;
         trail = none-yet;
         kept = record { state = b; is = p .1; stored = p .0; size = refl; trail = none-yet };
@@ -127,6 +132,7 @@ module _ (x f : ℕ) (b : State) (fine : bitsCheck (badBits x f) (b .machine) �
       record {
         passes = w .passes;
         kinds = w .kinds;
+        job = w .job;
         size = w .size;
         trail = w .trail;
         kept = w .kept;
@@ -150,6 +156,7 @@ module _ (x f : ℕ) (b : State) (fine : bitsCheck (badBits x f) (b .machine) �
           responses = rw e (set-bytes (m .responses) (k .0) _ (w .kinds .responses) (answered-byte x f v (response m (k .0))));
           constant = w .kinds .constant;
         };
+        job = rw e (w .job);
         size = ap (λ (z : Machine). length (z .responses)) e ∙ length-set (m .responses) (k .0) _ ∙ w .size;
         trail = rw (shadow-after x f fit (b .machine) fine m (w .size) k p v, ← (append-nil vs)) one;
         kept = w .kept;
@@ -172,6 +179,7 @@ module _ (x f : ℕ) (b : State) (fine : bitsCheck (badBits x f) (b .machine) �
       record {
         passes = w .passes;
         kinds = w .kinds;
+        job = w .job;
         size = w .size;
         trail = rw (nothing-pending phase, append-nil (vs ++ pending phase)) (w .trail);
         kept = record { state = s; is = p .1; stored = p .0; size = w .size; trail = w .trail };
@@ -195,6 +203,7 @@ module _ (x f : ℕ) (b : State) (fine : bitsCheck (badBits x f) (b .machine) �
       rw e (record {
         passes = i .stored .machine;
         kinds = record { responses = i .stored .responses; constant = i .stored .constant };
+        job = i .stored .job;
         size = i .size;
         trail = rw (append-nil vs) (i .trail);
         kept = w .kept;
@@ -208,6 +217,7 @@ module _ (x f : ℕ) (b : State) (fine : bitsCheck (badBits x f) (b .machine) �
       record {
         passes = other-passes o (w .passes);
         kinds = other-typed o (w .kinds);
+        job = other-job o (w .kinds) (w .job);
         size = l .count ∙ w .size;
         trail = rw e (w .trail);
         kept = w .kept;

@@ -49,7 +49,7 @@ use Rattle.hosts.specs.Rounds.{Responder, lower, Leaves, Apart, Phase, ready, s
 use Rattle.hosts.proofs.Images.{Typed}
 use Rattle.hosts.proofs.Jobs as stops
 use Rattle.hosts.proofs.Jobs.{as-without-stops, goes-on, rest-ends}
-use Rattle.hosts.proofs.Rounds.{was-next, answerable, taken-is-shown, is-next, ends, over, faulty-has, done-has, others-have, in-order, none-skipped, resumable}
+use Rattle.hosts.proofs.Rounds.{was-next, answerable, taken-is-shown, is-next, ends, over, faulty-has, done-has, others-have, in-order, none-skipped, storable-round, resumable}
 use Rattle.hosts.proofs.Leaving.{target-spares, lines-spare, step-spares, all-left}
 
 -- a started job is at its first place
@@ -249,7 +249,10 @@ module _ (x f : ℕ) (b : State) (fine : bitsCheck (badBits x f) (b .machine) �
     pub never-skipped : (k : ℕ) → Responder x (b .machine) k → lower x (b .machine) k < length vs → Shown k book
     never-skipped = none-skipped x f b fine typed hosted
 
-    -- the last stored image can always be resumed
+    -- what stands can always be stored, and the last stored image resumed
+    pub can-store-round : (output : List ℕ) → length (imageOf s) ≤ length output → Stores s (imageOf s)
+    can-store-round = storable-round x f b fine typed hosted
+
     pub can-resume-round : (words responses : List ℕ) → length (b .machine .words) ≤ length words → length (b .machine .words) ≤ length responses
         → (t : State) × Resumes image t
     can-resume-round = resumable x f b fine typed hosted

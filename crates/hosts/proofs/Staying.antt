@@ -1,0 +1,222 @@
+-- A held job that is in order stays so after each step, whatever the count: so what stands after any accepted calls can be stored.
+-- Document 01, number 8: "a job kind or place not in the table; .. after the start, an unused field not 0".
+-- Assumes nothing.
+use Prim.Native.Nat.{ℕ, zero, suc, _+_, _^_, _<_}
+use mathlib.Core.Path.{_≡_, refl, sym, ap, _∙_}
+use mathlib.Core.Bool.{Bool, true, false, not, _&&_, _||_}
+use native.Mathlib.Omega.{arith}
+use lib.Dec.{ltb, eqb}
+use borrow.Author.Tests.{eqb-true, ltb-true, lt-ltb}
+use Rattle.laws.specs.Bits.{pick}
+use Rattle.laws.proofs.Bits.{and-left, and-right}
+use Rattle.jobs.specs.declared.Job.{Job}
+use Rattle.jobs.specs.declared.Held.{Held}
+use Rattle.jobs.specs.declared.Held.the-variants.{Nothing, Holds}
+use Rattle.jobs.specs.Fields.{Kind, greatest, smallest, scaledAdd, product, unknown, kindOf, badExtreme, badScaledAdd, badProduct, badUsedFor, badUsed, isZero, unusedZeroFor, unusedZero}
+use Rattle.jobs.specs.Places.{atPlace, inTableFor, inTable, badHeld, moved, nextBelow, nextAbove, nextWithin, afterTrial, afterSecond, next}
+use Rattle.jobs.proofs.Fair.{Fair, fair}
+use Rattle.machine.specs.declared.Panel.{Panel}
+use Rattle.machine.specs.declared.Lines.{Lines}
+use Rattle.machine.specs.declared.Check.{Check}
+use Rattle.machine.specs.declared.Check.the-variants as check
+use Rattle.machine.specs.Machine.{Machine}
+use Rattle.machine.specs.Pulse.{pulsed}
+use Rattle.jobs.specs.declared.Command.{Command}
+use Rattle.jobs.specs.declared.Started.the-variants as started
+use Rattle.jobs.specs.declared.Stepped.the-variants as answer
+use Rattle.jobs.specs.Calls.{startOf, stepCheck, gave, steppedBy, stepOf}
+use Rattle.jobs.specs.Runs.{State, heldAfter, stepped, steps}
+use Rattle.ends.specs.Ends.{Accepted}
+use Rattle.ends.proofs.Starts.{accepted-is}
+use Rattle.image.specs.Calls.{badJob}
+use Rattle.image.proofs.Bytes.{AreBytes}
+use Rattle.hosts.specs.Rounds as events
+use Rattle.hosts.specs.Rounds.{Other}
+use Rattle.hosts.proofs.Images.{Typed}
+use Rattle.hosts.proofs.Leaving.{accepted-pulse, accepted-step}
+use Rattle.hosts.proofs.Jobs.{storable}
+
+-- ---- bools
+
+or-cases : (a b c : Bool) → (a || b) ≡ true → (a ≡ true → c ≡ true) → (b ≡ true → c ≡ true) → c ≡ true
+or-cases true b c h f g = f refl
+or-cases false b c h f g = g h
+
+both : (a b : Bool) → a ≡ true → b ≡ true → (a && b) ≡ true
+both true b h g = g
+both false b h g = h
+
+or-right : (a b : Bool) → b ≡ true → (a || b) ≡ true
+or-right true b h = refl
+or-right false b h = h
+
+all-right : (a b c : Bool) → a ≡ false → b ≡ true → c ≡ true → (a || not b || not c) ≡ false
+all-right a b c h g k = rw (h, g, k)
+
+pulsed-width : (m : Machine) (p : Panel) (l : Lines) → pulsed m p l .width ≡ m .width
+unfolding pulsed
+pulsed-width m p l = refl
+
+module _ (n : ℕ) (o : Job) where
+  used-same : (k : Kind) (phase i j : ℕ) → badUsedFor k n (moved o phase i j) ≡ badUsedFor k n o
+  unfolding badExtreme badScaledAdd badProduct
+  used-same greatest phase i j = refl
+  used-same smallest phase i j = refl
+  used-same scaledAdd phase i j = refl
+  used-same product phase i j = refl
+  used-same unknown phase i j = refl
+
+  -- in order at another place, where the unused fields and the place are right there too
+  good : (k : Kind) → kindOf (o .kind) ≡ k → badUsedFor k n o ≡ false → (phase i j : ℕ) → unusedZeroFor k (moved o phase i j) ≡ true
+      → inTableFor k (moved o phase i j) ≡ true → badJob n (Holds (moved o phase i j)) ≡ false
+  unfolding badHeld badUsed unusedZero inTable
+  good k e u phase i j z t =
+      let q = moved o phase i j in
+      ap (λ (k : Kind). badUsedFor k n q || not (unusedZeroFor k q) || not (inTableFor k q)) e
+      ∙ all-right (badUsedFor k n q) (unusedZeroFor k q) (inTableFor k q) (used-same k phase i j ∙ u) z t
+
+  picked : (t : Bool) (h g : Held) → (t ≡ true → badJob n h ≡ false) → badJob n g ≡ false → badJob n (pick t h g) ≡ false
+  picked true h g a b = a refl
+  picked false h g a b = b
+
+  -- ---- extremes
+
+  module _ (k : Kind) (e : kindOf (o .kind) ≡ k) (f : Fair n o k)
+      (zeros : (phase i : ℕ) → unusedZeroFor k (moved o phase i 0) ≡ true)
+      (at : (phase i : ℕ) → (eqb phase 1 || eqb phase 2) ≡ true → i < o .a .width → inTableFor k (moved o phase i 0) ≡ true) (small : o .i < o .a .width) where
+    moves : (phase i : ℕ) → (eqb phase 1 || eqb phase 2) ≡ true → i < o .a .width → badJob n (Holds (moved o phase i 0)) ≡ false
+    moves phase i p l = good k e (f .used) phase i 0 (zeros phase i) (at phase i p l)
+
+    below : (i : ℕ) → i ≡ o .i → badJob n (nextBelow o i) ≡ false
+    below zero h = refl
+    below (suc i) h = moves 1 i refl (omega arith)
+
+    extreme-next : (c : ℕ) → badJob n (pick (eqb (o .phase) 0) (Holds (moved o 1 (o .i) 0))
+        (pick (eqb (o .phase) 1) (pick (eqb c 0) (nextBelow o (o .i)) (Holds (moved o 2 (o .i) 0))) (nextBelow o (o .i)))) ≡ false
+    extreme-next c =
+        picked (eqb (o .phase) 0) _ _ (λ q. moves 1 (o .i) refl small)
+        (picked (eqb (o .phase) 1) _ _ (λ q. picked (eqb c 0) (nextBelow o (o .i)) (Holds (moved o 2 (o .i) 0)) (λ z. below (o .i) refl) (moves 2 (o .i) refl small)) (below (o .i) refl))
+
+  -- what is known of an extreme at its place
+  extreme-small : ((eqb (o .phase) 0 && eqb (o .i + 1) (o .a .width)) || (atPlace o && ltb (o .i) (o .a .width))) ≡ true → o .i < o .a .width
+  extreme-small h =
+      ltb-true (o .i) (o .a .width)
+      (or-cases (eqb (o .phase) 0 && eqb (o .i + 1) (o .a .width)) (atPlace o && ltb (o .i) (o .a .width)) (ltb (o .i) (o .a .width)) h
+      (λ q. let e = eqb-true (o .i + 1) (o .a .width) (and-right (eqb (o .phase) 0) (eqb (o .i + 1) (o .a .width)) q) in lt-ltb (o .i) (o .a .width) (omega (arith, e)))
+      (λ q. and-right (atPlace o) (ltb (o .i) (o .a .width)) q))
+
+  extreme-zeros : ((isZero (o .b) && isZero (o .p)) && eqb (o .j) 0) && eqb (o .c) 0 ≡ true → isZero (o .b) && isZero (o .p) && eqb 0 0 && eqb (o .c) 0 ≡ true
+  extreme-zeros z =
+      let spans = isZero (o .b) && isZero (o .p) in
+      let e : o .j ≡ 0 = eqb-true (o .j) 0 (and-right spans (eqb (o .j) 0) (and-left (spans && eqb (o .j) 0) (eqb (o .c) 0) z)) in
+      ap (λ (j : ℕ). spans && eqb j 0 && eqb (o .c) 0) (sym e) ∙ z
+
+  extreme-at : (phase i : ℕ) → (eqb phase 1 || eqb phase 2) ≡ true → i < o .a .width
+      → (eqb phase 0 && eqb (i + 1) (o .a .width) || (eqb phase 1 || eqb phase 2) && ltb i (o .a .width)) ≡ true
+  extreme-at phase i p l =
+      or-right (eqb phase 0 && eqb (i + 1) (o .a .width)) ((eqb phase 1 || eqb phase 2) && ltb i (o .a .width)) (both _ _ p (lt-ltb i (o .a .width) l))
+
+  -- ---- the adding kinds
+
+  module _ (e : kindOf (o .kind) ≡ scaledAdd) (f : Fair n o scaledAdd) where
+    scaled-zeros : (phase i : ℕ) → unusedZeroFor scaledAdd (moved o phase i 0) ≡ true
+    scaled-zeros phase i =
+        let rest = eqb (o .x) 0 && isZero (o .b) in
+        let z : o .j ≡ 0 = eqb-true (o .j) 0 (and-right rest (eqb (o .j) 0) (f .zero)) in ap (λ (j : ℕ). rest && eqb j 0) (sym z) ∙ f .zero
+
+    in-a : ltb (o .i) (o .a .width) ≡ true
+    in-a = and-right (atPlace o) (ltb (o .i) (o .a .width)) (and-left (atPlace o && ltb (o .i) (o .a .width)) (ltb (o .i) (o .p .width)) (f .place))
+
+    in-p : ltb (o .i) (o .p .width) ≡ true
+    in-p = and-right (atPlace o && ltb (o .i) (o .a .width)) (ltb (o .i) (o .p .width)) (f .place)
+
+    scaled-moves : (phase i j : ℕ) → (eqb phase 1 || eqb phase 2) ≡ true → unusedZeroFor scaledAdd (moved o phase i j) ≡ true
+        → ltb i (o .a .width) ≡ true → ltb i (o .p .width) ≡ true → badJob n (Holds (moved o phase i j)) ≡ false
+    scaled-moves phase i j p z a b = good scaledAdd e (f .used) phase i j z (both _ _ (both _ _ p a) b)
+
+    scaled-next : badJob n (pick (eqb (o .phase) 0) (Holds (moved o 1 (o .i) 0)) (pick (eqb (o .phase) 1) (Holds (moved o 2 (o .i) (o .j))) (nextAbove o))) ≡ false
+    scaled-next =
+        let more = ltb (o .i + 1) (o .a .width) && ltb (o .i + 1) (o .p .width) in
+        picked (eqb (o .phase) 0) _ _ (λ q. scaled-moves 1 (o .i) 0 refl (scaled-zeros 1 (o .i)) in-a in-p)
+        (picked (eqb (o .phase) 1) _ _ (λ q. scaled-moves 2 (o .i) (o .j) refl (f .zero) in-a in-p)
+        (picked more _ Nothing
+        (λ q. scaled-moves 1 (o .i + 1) 0 refl (scaled-zeros 1 (o .i + 1)) (and-left (ltb (o .i + 1) (o .a .width)) (ltb (o .i + 1) (o .p .width)) q) (and-right (ltb (o .i + 1) (o .a .width)) (ltb (o .i + 1) (o .p .width)) q))
+        refl))
+
+  module _ (e : kindOf (o .kind) ≡ product) (f : Fair n o product) where
+    abbrev at-i : Bool
+    at-i = atPlace o && ltb (o .i) (o .a .width)
+
+    i-in-a : o .i < o .a .width
+    i-in-a =
+        ltb-true (o .i) (o .a .width)
+        (and-right (atPlace o) (ltb (o .i) (o .a .width))
+        (and-left at-i (ltb (o .j) (o .b .width)) (and-left (at-i && ltb (o .j) (o .b .width)) (ltb (o .i + o .j) (o .p .width)) (f .place))))
+
+    j-in-b : o .j < o .b .width
+    j-in-b =
+        ltb-true (o .j) (o .b .width)
+        (and-right at-i (ltb (o .j) (o .b .width)) (and-left (at-i && ltb (o .j) (o .b .width)) (ltb (o .i + o .j) (o .p .width)) (f .place)))
+
+    sum-in-p : o .i + o .j < o .p .width
+    sum-in-p = ltb-true (o .i + o .j) (o .p .width) (and-right (at-i && ltb (o .j) (o .b .width)) (ltb (o .i + o .j) (o .p .width)) (f .place))
+
+    product-moves : (phase i j : ℕ) → (eqb phase 1 || eqb phase 2) ≡ true → i < o .a .width → j < o .b .width → i + j < o .p .width
+        → badJob n (Holds (moved o phase i j)) ≡ false
+    product-moves phase i j p a b c =
+        good product e (f .used) phase i j (f .zero)
+        (both _ _ (both _ _ (both _ _ p (lt-ltb i (o .a .width) a)) (lt-ltb j (o .b .width) b)) (lt-ltb (i + j) (o .p .width) c))
+
+    product-next : badJob n (pick (eqb (o .phase) 0) (Holds (moved o 1 (o .i) 0)) (pick (eqb (o .phase) 1) (Holds (moved o 2 (o .i) (o .j))) (nextWithin o))) ≡ false
+    product-next =
+        let more-j = ltb (o .j + 1) (o .b .width) && ltb (o .i + (o .j + 1)) (o .p .width) in
+        let more-i = ltb (o .i + 1) (o .a .width) && ltb (o .i + 1) (o .p .width) in
+        picked (eqb (o .phase) 0) _ _ (λ q. product-moves 1 (o .i) 0 refl i-in-a (omega (arith, j-in-b)) (omega (arith, sum-in-p)))
+        (picked (eqb (o .phase) 1) _ _ (λ q. product-moves 2 (o .i) (o .j) refl i-in-a j-in-b sum-in-p)
+        (picked more-j (Holds (moved o 1 (o .i) (o .j + 1))) (nextAbove o)
+        (λ q. product-moves 1 (o .i) (o .j + 1) refl i-in-a (ltb-true (o .j + 1) (o .b .width) (and-left (ltb (o .j + 1) (o .b .width)) (ltb (o .i + (o .j + 1)) (o .p .width)) q))
+        (ltb-true (o .i + (o .j + 1)) (o .p .width) (and-right (ltb (o .j + 1) (o .b .width)) (ltb (o .i + (o .j + 1)) (o .p .width)) q)))
+        (picked more-i (Holds (moved o 1 (o .i + 1) 0)) Nothing
+        (λ q. let a = ltb-true (o .i + 1) (o .a .width) (and-left (ltb (o .i + 1) (o .a .width)) (ltb (o .i + 1) (o .p .width)) q) in
+        let c = ltb-true (o .i + 1) (o .p .width) (and-right (ltb (o .i + 1) (o .a .width)) (ltb (o .i + 1) (o .p .width)) q) in
+        product-moves 1 (o .i + 1) 0 refl a (omega (arith, j-in-b)) (omega (arith, c)))
+        refl)))
+
+  -- ---- every kind
+
+  pub stays : badHeld n o ≡ false → (c : ℕ) → badJob n (next o c) ≡ false
+  unfolding next
+  stays h c = go (kindOf (o .kind)) refl (fair n o h)
+    where
+      go : (k : Kind) → kindOf (o .kind) ≡ k → Fair n o k
+          → badJob n (pick (eqb (o .phase) 0) (Holds (moved o 1 (o .i) 0)) (pick (eqb (o .phase) 1) (afterTrial k o c) (afterSecond k o))) ≡ false
+      go greatest e f = extreme-next greatest e f (λ ph i. extreme-zeros (f .zero)) (λ ph i p l. extreme-at ph i p l) (extreme-small (f .place)) c
+      go smallest e f = extreme-next smallest e f (λ ph i. extreme-zeros (f .zero)) (λ ph i p l. extreme-at ph i p l) (extreme-small (f .place)) c
+      go scaledAdd e f = scaled-next e f
+      go product e f = product-next e f
+      go unknown e f = let z : _≡_ {A = ℕ} 0 1 = cc (f .used) in absurd (omega arith)
+
+-- ---- any accepted call that is none of a round's
+
+start-held : (m : Machine) (h : Held) (o q : Job) → AreBytes (m .responses) → o .c < 2 ^ 64 → startOf m h o ≡ started.Holds q → badJob (m .width) (Holds q) ≡ false
+unfolding steps
+start-held m h o q b c e =
+    let p = accepted-is m h o q e in
+    let a : Accepted m o = ap (λ (h : Held). startOf m h o) (sym (p .0)) ∙ e ∙ ap started.Holds (p .1) in
+    rw (p .1) (storable m o a (record { responses = b; constant = c }) 0 (omega arith) .job)
+
+gave-held : (s : State) {k : Command} {c : ℕ} {h : Held} → stepOf (s .machine) (s .held) ≡ answer.Gave k c h
+    → badJob (s .machine .width) (s .held) ≡ false → badJob (s .machine .width) (stepped s .held) ≡ false
+unfolding stepped stepOf
+gave-held s e b = go (stepCheck (s .machine) (s .held)) (s .held) b
+  where
+    go : (c : Check) (h : Held) → badJob (s .machine .width) h ≡ false → badJob (s .machine .width) (heldAfter (steppedBy c (gave (s .machine) h)) h) ≡ false
+    go (check.Refused r) h b = b
+    go check.Passed Nothing b = b
+    go check.Passed (Holds o) b = stays (s .machine .width) o b _
+
+pub other-job : {s t : State} → Other s t → Typed s → badJob (s .machine .width) (s .held) ≡ false → badJob (t .machine .width) (t .held) ≡ false
+other-job (events.pulses {s} p l a) y h = rw (accepted-pulse (s .machine) p l a, pulsed-width (s .machine) p l) h
+other-job (events.starts {s} {q} o c a) y h = start-held (s .machine) (s .held) o q (y .responses) c a
+other-job (events.steps {s} {k} a) y h = rw (accepted-step s a, pulsed-width (s .machine) (k .panel) (k .lines)) (gave-held s a h)
+other-job events.loads y h = h
