@@ -9,8 +9,8 @@ use lib.ListN.{length, take, drop, getD, length-append, length-drop}
 use lib.Pow.{pow-mono, pow-add}
 use lib.Seq.{drop-cons, drop-drop}
 use Rattle.laws.proofs.Digits.{tri}
-use Rattle.jobs.specs.declared.Job.{Job}
-use Rattle.jobs.specs.declared.Span.{Span}
+use Rattle.plans.specs.declared.Job.{Job}
+use Rattle.plans.specs.declared.Span.{Span}
 use Rattle.image.specs.Format.{bytes, value, items, byte, spanAt, jobOf, jobBytes}
 use Rattle.image.specs.Reading.{numbers}
 

@@ -14,8 +14,8 @@ use Rattle.machine.specs.declared.Refusal.the-variants.{Malformed, NoRoom}
 use Rattle.machine.specs.declared.Check.{Check}
 use Rattle.machine.specs.declared.Check.the-variants.{Passed, Refused}
 use Rattle.machine.proofs.Checks.{else-passed, not-refused, or-left, or-right}
-use Rattle.jobs.specs.declared.Held.{Held}
-use Rattle.jobs.specs.declared.Held.the-variants.{Nothing, Holds}
+use Rattle.plans.specs.declared.Held.{Held}
+use Rattle.plans.specs.declared.Held.the-variants.{Nothing, Holds}
 use Rattle.image.specs.declared.Scanned.{Scanned}
 use Rattle.image.specs.declared.Scanned.the-variants.{Sound, Broken}
 use Rattle.image.specs.declared.Read.the-variants as read

@@ -15,10 +15,10 @@ use Rattle.laws.specs.Bits.{pick}
 use Rattle.machine.specs.declared.Check.the-variants.{Passed}
 use Rattle.machine.specs.Refusals.{badSize, badWidth, machineCheck}
 use Rattle.machine.proofs.Checks as checks
-use Rattle.jobs.specs.declared.Job.{Job}
-use Rattle.jobs.specs.declared.Held.{Held}
-use Rattle.jobs.specs.declared.Held.the-variants.{Nothing, Holds}
-use Rattle.jobs.specs.Places.{badHeld}
+use Rattle.plans.specs.declared.Job.{Job}
+use Rattle.plans.specs.declared.Held.{Held}
+use Rattle.plans.specs.declared.Held.the-variants.{Nothing, Holds}
+use Rattle.plans.specs.Places.{badHeld}
 use Rattle.jobs.specs.Runs.{State}
 use Rattle.image.specs.declared.Scanned.the-variants.{Sound}
 use Rattle.image.specs.Format.{bytes, value, items, section, jobBytes, jobOf, heldJobs, imageOf}

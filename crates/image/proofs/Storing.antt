@@ -9,9 +9,9 @@ use native.Mathlib.Omega.{arith}
 use lib.ListN.{length, take, drop, getD, set}
 use lib.Seq.{sets, drop-cons, drop-drop, drop-length}
 use Rattle.machine.specs.Machine.{Machine}
-use Rattle.jobs.specs.declared.Job.{Job}
-use Rattle.jobs.specs.declared.Held.{Held}
-use Rattle.jobs.specs.declared.Held.the-variants.{Nothing, Holds}
+use Rattle.plans.specs.declared.Job.{Job}
+use Rattle.plans.specs.declared.Held.{Held}
+use Rattle.plans.specs.declared.Held.the-variants.{Nothing, Holds}
 use Rattle.image.specs.Format.{bytes, value, items, section, jobBytes, heldJobs}
 use Rattle.image.specs.Reading.{numbers}
 use Rattle.image.specs.Parts.{machineBytes}

@@ -16,9 +16,9 @@ use borrow.Author.Tests.{leb-true, eqb-true, eq-eqb, ne-eqb, le-ltb, not-true}
 use Rattle.laws.specs.Bits.{pick}
 use Rattle.laws.proofs.Bits.{and-left, and-right}
 use Rattle.machine.specs.Refusals.{badSize, badWidth, machineCheck}
-use Rattle.jobs.specs.declared.Held.{Held}
-use Rattle.jobs.specs.declared.Held.the-variants.{Nothing, Holds}
-use Rattle.jobs.specs.Places.{badHeld}
+use Rattle.plans.specs.declared.Held.{Held}
+use Rattle.plans.specs.declared.Held.the-variants.{Nothing, Holds}
+use Rattle.plans.specs.Places.{badHeld}
 use Rattle.jobs.specs.Runs.{State}
 use Rattle.image.specs.declared.Scanned.the-variants.{Sound}
 use Rattle.image.specs.Format.{bytes, value, items, section, jobBytes, jobOf, heldJobs, imageOf}

@@ -16,8 +16,8 @@ use Rattle.machine.specs.declared.Check.the-variants.{Passed, Refused}
 use Rattle.machine.specs.Machine.{Machine}
 use Rattle.machine.specs.Refusals.{refuse, machineCheck}
 use Rattle.machine.proofs.Checks.{sound, size-same, else-passed, not-refused}
-use Rattle.jobs.specs.declared.Held.{Held}
-use Rattle.jobs.specs.declared.Held.the-variants.{Nothing, Holds}
+use Rattle.plans.specs.declared.Held.{Held}
+use Rattle.plans.specs.declared.Held.the-variants.{Nothing, Holds}
 use Rattle.jobs.specs.Runs.{State}
 use Rattle.image.specs.declared.Wrote.the-variants as wrote
 use Rattle.image.specs.Format.{bytes, items, section, jobBytes, heldJobs, imageOf}

@@ -7,7 +7,7 @@ use lib.Dec.{ltb}
 use lib.ListN.{length, take, drop, replicate}
 use Rattle.laws.specs.Bits.{pick}
 use Rattle.machine.specs.Machine.{Machine, machine}
-use Rattle.jobs.specs.declared.Held.{Held}
+use Rattle.plans.specs.declared.Held.{Held}
 use Rattle.jobs.specs.Runs.{State}
 use Rattle.image.specs.declared.Scanned.{Scanned}
 use Rattle.image.specs.declared.Scanned.the-variants.{Sound, Broken}

@@ -10,9 +10,9 @@ use lib.ListN.{length, take, drop, getD, replicate}
 use Rattle.laws.specs.Bits.{pick}
 use Rattle.machine.specs.Machine.{Machine}
 use Rattle.machine.specs.Refusals.{badWidth, tooWide}
-use Rattle.jobs.specs.declared.Held.{Held}
-use Rattle.jobs.specs.declared.Held.the-variants.{Nothing, Holds}
-use Rattle.jobs.specs.Places.{badHeld}
+use Rattle.plans.specs.declared.Held.{Held}
+use Rattle.plans.specs.declared.Held.the-variants.{Nothing, Holds}
+use Rattle.plans.specs.Places.{badHeld}
 use Rattle.jobs.specs.Runs.{State}
 use Rattle.image.specs.declared.Scanned.{Scanned}
 use Rattle.image.specs.declared.Scanned.the-variants.{Sound, Broken}

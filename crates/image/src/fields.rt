@@ -2,17 +2,17 @@
 // Document 01, 'The image' and number 9: "the offset of the first field, read in order, that is cut off or breaks a rule (a job is one
 // field), or of the first byte too many".
 use crate::Scanned;
-use jobs::Held;
-use jobs::Job;
-use jobs::Span;
 use machine::BitSlice;
+use plans::Held;
+use plans::Job;
+use plans::Span;
 ghost use mathlib.Core.Path.{_≡_};
 ghost use mathlib.Core.List.{List, [], _++_};
 ghost use Prim.Native.Nat.{ℕ, _+_, _*_, _<_, _≤_};
 ghost use lib.Dec.{eqb};
 ghost use lib.ListN.{length, take, drop, replicate};
 ghost use Rattle.laws.specs.Bits.{pick};
-ghost use Rattle.jobs.specs.declared.Held.the-variants as held;
+ghost use Rattle.plans.specs.declared.Held.the-variants as held;
 ghost use Rattle.image.specs.declared.Scanned.the-variants as found;
 ghost use Rattle.image.specs.Format.{value, byte, spanAt, jobOf};
 ghost use Rattle.image.specs.Reading.{Field, scan, countIs, wordCount, widthByte, wordField, jobCount, jobField, scanned};
@@ -149,7 +149,7 @@ pub(crate) fn job_right(image: &[u8], at: usize, width: u32) -> bool
     if image.len() - at < 22 {
         return false;
     }
-    !jobs::bad_held(width, job_at(image, at))
+    !places::bad_held(width, job_at(image, at))
 }
 
 // ---- the fields in order

@@ -5,8 +5,8 @@ pub mod reading;
 mod stores;
 pub mod writing;
 
-use jobs::Held;
 use machine::Refusal;
+use plans::Held;
 
 // What writing answers: the image's length.
 pub enum Wrote {

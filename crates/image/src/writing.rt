@@ -2,10 +2,10 @@
 // Document 01, 'The image' and 'Numbers given when a call is turned down'.
 use crate::Wrote;
 use crate::stores;
-use jobs::Held;
 use machine::Check;
 use machine::Refusal;
 use machine::Response;
+use plans::Held;
 ghost use mathlib.Core.Path.{_≡_};
 ghost use Prim.Native.Nat.{_+_, _*_, _≤_};
 ghost use lib.ListN.{length};
@@ -19,7 +19,7 @@ fn bad_job(width: u32, held: Held) -> bool
 {
     match held {
         Held::Nothing => false,
-        Held::Holds(o) => jobs::bad_held(width, o),
+        Held::Holds(o) => places::bad_held(width, o),
     }
 }
 

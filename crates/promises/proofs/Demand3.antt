@@ -11,12 +11,12 @@ use lib.Dec.{ltb, eqb}
 use lib.ListN.{length, drop, getD}
 use Rattle.laws.specs.Bits.{bit, digit}
 use Rattle.machine.specs.Machine.{Machine, responseBits}
-use Rattle.jobs.specs.declared.Job.{Job}
-use Rattle.jobs.specs.declared.Held.the-variants.{Nothing, Holds}
-use Rattle.jobs.specs.declared.Total.the-variants as total
-use Rattle.jobs.specs.Fields.{Kind, greatest, smallest, scaledAdd, product, unknown, kindOf}
-use Rattle.jobs.specs.Places.{first, firstFor}
-use Rattle.jobs.specs.Totals.{sumBelow, ones, zeros, valueOf, values, greatestOf, smallestOf, pulses, atFirst, totalCheck, totalOf}
+use Rattle.plans.specs.declared.Job.{Job}
+use Rattle.plans.specs.declared.Held.the-variants.{Nothing, Holds}
+use Rattle.tally.specs.declared.Total.the-variants as total
+use Rattle.plans.specs.Fields.{Kind, greatest, smallest, scaledAdd, product, unknown, kindOf}
+use Rattle.plans.specs.Places.{first, firstFor, atFirst}
+use Rattle.tally.specs.Totals.{sumBelow, ones, zeros, valueOf, values, greatestOf, smallestOf, pulses, totalCheck, totalOf}
 use Rattle.jobs.specs.Runs.{steps}
 use Rattle.ends.specs.Ends.{Accepted, begun, Gives, ended, Adds, Marks}
 use Rattle.ends.proofs.Steps.{given-passed}

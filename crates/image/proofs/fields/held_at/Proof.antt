@@ -1,7 +1,7 @@
 use Prim.Native.Nat.{_+_}
 use mathlib.Core.Path.{sym, ap, _∙_}
 use lib.ListN.{take, drop}
-use Rattle.jobs.specs.declared.Held.the-variants.{Nothing, Holds}
+use Rattle.plans.specs.declared.Held.the-variants.{Nothing, Holds}
 use Rattle.image.specs.Format.{value, jobOf}
 use Rattle.image.proofs.ReadCalls.{zero-picks, other-picks}
 use borrow.Author.Needs.{needs}

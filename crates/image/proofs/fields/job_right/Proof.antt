@@ -1,6 +1,6 @@
 use mathlib.Core.Path.{ap, _∙_}
 use mathlib.Core.Bool.{not}
-use Rattle.jobs.specs.Places.{badHeld}
+use Rattle.plans.specs.Places.{badHeld}
 use Rattle.image.specs.Reading.{jobField}
 use Rattle.image.proofs.Scans.{holds-cut, holds-read}
 use borrow.Author.Needs.{needs}

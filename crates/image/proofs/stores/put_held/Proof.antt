@@ -1,7 +1,7 @@
 use mathlib.Core.Path.{_≡_, ap}
 use native.Mathlib.Omega.{arith}
 use lib.ListN.{length}
-use Rattle.jobs.specs.declared.Held.{Held}
+use Rattle.plans.specs.declared.Held.{Held}
 use Rattle.image.specs.Format.{heldJobs}
 use Rattle.image.proofs.Storing.{stored-none, stored-one}
 use borrow.Author.Needs.{needs}
