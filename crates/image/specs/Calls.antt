@@ -21,10 +21,10 @@ use Rattle.image.specs.declared.Wrote.{Wrote}
 use Rattle.image.specs.declared.Wrote.the-variants as wrote
 use Rattle.image.specs.declared.Read.{Read}
 use Rattle.image.specs.declared.Read.the-variants as read
-use Rattle.image.specs.declared.Scanned.{Scanned}
-use Rattle.image.specs.declared.Scanned.the-variants.{Sound, Broken}
-use Rattle.image.specs.Format.{imageOf}
-use Rattle.image.specs.Reading.{wordsIn, scanned, stateIn}
+use Rattle.layout.specs.declared.Scanned.{Scanned}
+use Rattle.layout.specs.declared.Scanned.the-variants.{Sound, Broken}
+use Rattle.layout.specs.Format.{imageOf}
+use Rattle.layout.specs.Reading.{wordsIn, scanned, stateIn}
 
 -- ---- writing
 

@@ -1,7 +1,7 @@
 use Prim.Native.Nat.{_+_, _*_}
 use mathlib.Core.Path.{sym, ap}
 use native.Mathlib.Omega.{arith}
-use Rattle.image.specs.Format.{heldJobs}
+use Rattle.layout.specs.Format.{heldJobs}
 use lib.ListN.{length}
 use Rattle.plans.specs.declared.Held.{Held}
 use borrow.Author.Needs.{needs}
