@@ -1,8 +1,8 @@
-// The plain machine: one pulse, cell by cell, as document 01's paragraph 'The cells' says.
-mod add;
-mod bits;
-mod search;
-
+// The plain machine: one pulse, cell by cell, as document 01's paragraph 'The cells' says. The cells of one word are in
+// `chains`.
+use chains::add;
+use chains::bits;
+use chains::search;
 use machine::Answer;
 use machine::Check;
 use machine::Lines;

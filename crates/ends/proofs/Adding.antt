@@ -12,8 +12,8 @@ use Rattle.laws.proofs.Bits.{shifted, number-is}
 use Rattle.machine.specs.Machine.{over, tops, selected}
 use Rattle.machine.specs.Pulse.{addend, sums, added, change, wordAfter, responseAfter}
 use Rattle.machine.proofs.Masks.{addend-is}
-use Rattle.jobs.specs.declared.Span.{Span}
-use Rattle.jobs.specs.Commands.{plus}
+use Rattle.plans.specs.declared.Span.{Span}
+use Rattle.plans.specs.Commands.{plus}
 use Rattle.ends.proofs.Shapes.{from, above, rest, rest-none}
 use Rattle.ends.proofs.Parts.{addedTo, Gains, gains-add}
 

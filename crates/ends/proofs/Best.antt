@@ -9,8 +9,8 @@ use lib.Dec.{leb}
 use lib.ListN.{length, getD}
 use borrow.Author.Tests.{leb-true, leb-false}
 use Rattle.machine.specs.Machine.{selected}
-use Rattle.jobs.specs.declared.Job.{Job}
-use Rattle.jobs.specs.Totals.{valueOf, keepValue, values, greatestOf, smallestOf}
+use Rattle.plans.specs.declared.Job.{Job}
+use Rattle.tally.specs.Totals.{valueOf, keepValue, values, greatestOf, smallestOf}
 
 module _ (o : Job) where
   abbrev chosenAt : List ℕ → ℕ → Bool

@@ -5,13 +5,13 @@ use mathlib.Core.Path.{_≡_, refl, ap, _∙_}
 use native.Mathlib.Omega.{arith}
 use Rattle.machine.specs.Machine.{Machine}
 use Rattle.machine.specs.Pulse.{pulsed}
-use Rattle.jobs.specs.declared.Job.{Job}
-use Rattle.jobs.specs.declared.Held.{Held}
-use Rattle.jobs.specs.declared.Held.the-variants.{Nothing}
-use Rattle.jobs.specs.Fields.{Kind, greatest, smallest, scaledAdd, product, unknown, kindOf, badUsed}
-use Rattle.jobs.specs.Places.{first}
-use Rattle.jobs.specs.Commands.{command}
-use Rattle.jobs.specs.Totals.{pulses}
+use Rattle.plans.specs.declared.Job.{Job}
+use Rattle.plans.specs.declared.Held.{Held}
+use Rattle.plans.specs.declared.Held.the-variants.{Nothing}
+use Rattle.plans.specs.Fields.{Kind, greatest, smallest, scaledAdd, product, unknown, kindOf, badUsed}
+use Rattle.plans.specs.Places.{first}
+use Rattle.plans.specs.Commands.{command}
+use Rattle.tally.specs.Totals.{pulses}
 use Rattle.jobs.specs.Runs.{State, stepped, steps, goOn, stepsTaken}
 use Rattle.ends.specs.Ends.{Accepted, begun, Gives, Course, ended}
 use Rattle.ends.proofs.Steps.{on, steps-on, steps-last, steps-idle}

@@ -11,10 +11,10 @@ use Rattle.laws.proofs.Digits.{Bit, off, on as lit}
 use Rattle.laws.proofs.Bits.{digit-at}
 use Rattle.machine.specs.Machine.{Machine}
 use Rattle.machine.proofs.Checks.{Sound}
-use Rattle.jobs.specs.declared.Job.{Job}
-use Rattle.jobs.specs.declared.Held.the-variants.{Nothing, Holds}
-use Rattle.jobs.specs.Places.{badHeld, moved, nextBelow}
-use Rattle.jobs.specs.Totals.{sumBelow, ones}
+use Rattle.plans.specs.declared.Job.{Job}
+use Rattle.plans.specs.declared.Held.the-variants.{Nothing, Holds}
+use Rattle.plans.specs.Places.{badHeld, moved, nextBelow}
+use Rattle.tally.specs.Totals.{sumBelow, ones}
 use Rattle.ends.specs.Ends.{SameSize}
 use Rattle.ends.proofs.Steps.{on, pulsedBy, countedBy, Run, stay, step-then}
 use Rattle.ends.proofs.Fields.{ExtremeFields}

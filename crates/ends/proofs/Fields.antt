@@ -10,9 +10,9 @@ use borrow.Author.Tests.{ltb-false, leb-false, eqb-false}
 use Rattle.laws.specs.Bits.{bit}
 use Rattle.machine.specs.Machine.{responseBits}
 use Rattle.machine.proofs.Checks.{or-left, or-right}
-use Rattle.jobs.specs.declared.Span.{Span}
-use Rattle.jobs.specs.declared.Job.{Job}
-use Rattle.jobs.specs.Fields.{badSyllable, overlaps, badWorkingBit, badExtreme, badScaledAdd, badProduct}
+use Rattle.plans.specs.declared.Span.{Span}
+use Rattle.plans.specs.declared.Job.{Job}
+use Rattle.plans.specs.Fields.{badSyllable, overlaps, badWorkingBit, badExtreme, badScaledAdd, badProduct}
 use Rattle.ends.specs.Ends.{Outside}
 
 -- a syllable of the word

@@ -10,11 +10,11 @@ use lib.Dec.{eqb}
 use lib.Pow.{pow-pos}
 use Rattle.laws.specs.Bits.{bit}
 use Rattle.machine.specs.Machine.{Machine}
-use Rattle.jobs.specs.declared.Job.{Job}
-use Rattle.jobs.specs.Fields.{greatest, kindOf, badExtreme, badUsed}
-use Rattle.jobs.specs.Places.{first}
-use Rattle.jobs.specs.Commands.{bitOf}
-use Rattle.jobs.specs.Totals.{ones, valueOf, values, greatestOf, pulses}
+use Rattle.plans.specs.declared.Job.{Job}
+use Rattle.plans.specs.Fields.{greatest, kindOf, badExtreme, badUsed}
+use Rattle.plans.specs.Places.{first}
+use Rattle.plans.specs.Commands.{bitOf}
+use Rattle.tally.specs.Totals.{ones, valueOf, values, greatestOf, pulses}
 use Rattle.ends.specs.Ends.{Accepted, word, Course, ended, Marks}
 use Rattle.ends.proofs.Agreeing.{agrees, agrees-one, one-here}
 use Rattle.ends.proofs.Parts.{value-lt, value-bit}

@@ -13,7 +13,7 @@ use Rattle.laws.proofs.Bits.{digit-at, number-lt, number-bit, every-like, every
 use Rattle.machine.specs.Machine.{responseBits, selected}
 use Rattle.machine.specs.Search.{code, codeAt, cared, asks, readOver, satisfied, matches, marked}
 use Rattle.machine.specs.Pulse.{wordAfter, responseAfter}
-use Rattle.jobs.specs.Commands.{look}
+use Rattle.plans.specs.Commands.{look}
 use Rattle.ends.proofs.Agreeing.{agrees, one-here, one-there}
 use Rattle.ends.proofs.Shapes.{from, whole}
 

@@ -10,8 +10,8 @@ use lib.Dec.{ltb, leb}
 use lib.ListN.{length}
 use borrow.Author.Tests.{ltb-true, ltb-false, leb-true, leb-false}
 use Rattle.laws.specs.Bits.{digit}
-use Rattle.jobs.specs.declared.Job.{Job}
-use Rattle.jobs.specs.Totals.{sumBelow}
+use Rattle.plans.specs.declared.Job.{Job}
+use Rattle.tally.specs.Totals.{sumBelow}
 use Rattle.ends.proofs.Visits.{Stop}
 use Rattle.ends.proofs.ScaledPlaces.{lesser}
 use Rattle.ends.proofs.ProductPlaces.{across, rowOf, rows}

@@ -9,8 +9,8 @@ use lib.Pow.{pow-pos, pow-add, mod-pow-add, mod-mod-pow, high, low, shr-shr}
 use Rattle.laws.specs.Bits.{bit}
 use Rattle.laws.proofs.Digits.{mod-suc, bit-lt}
 use Rattle.laws.proofs.Bits.{shifted, digit-at, number-is, number-bit, same-bits, bits-same}
-use Rattle.jobs.specs.declared.Span.{Span}
-use Rattle.jobs.specs.Totals.{valueOf}
+use Rattle.plans.specs.declared.Span.{Span}
+use Rattle.tally.specs.Totals.{valueOf}
 use Rattle.ends.specs.Ends.{Outside}
 
 -- ---- the k bits from bit lo up, as a number

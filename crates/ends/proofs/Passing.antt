@@ -12,10 +12,10 @@ use Rattle.laws.specs.Bits.{bit, pick, digit}
 use Rattle.machine.specs.Machine.{Machine, responseBits, selected}
 use Rattle.machine.specs.Pulse.{pulsed, added}
 use Rattle.machine.proofs.Checks.{Sound}
-use Rattle.jobs.specs.declared.Job.{Job}
-use Rattle.jobs.specs.declared.Command.{Command}
-use Rattle.jobs.specs.Commands.{look, plus}
-use Rattle.jobs.specs.Totals.{valueOf}
+use Rattle.plans.specs.declared.Job.{Job}
+use Rattle.plans.specs.declared.Command.{Command}
+use Rattle.plans.specs.Commands.{look, plus}
+use Rattle.tally.specs.Totals.{valueOf}
 use Rattle.ends.specs.Ends.{word, response, chosen, Outside, SameSize, Adds}
 use Rattle.ends.proofs.Agreeing.{agrees, selected-one, selected-like}
 use Rattle.ends.proofs.Parts.{Gains, gains-none}

@@ -7,11 +7,11 @@ use native.Mathlib.Omega.{arith}
 use lib.Dec.{ltb, eqb}
 use borrow.Author.Tests.{eq-eqb, lt-ltb}
 use Rattle.laws.specs.Bits.{pick}
-use Rattle.jobs.specs.declared.Job.{Job}
-use Rattle.jobs.specs.declared.Held.the-variants.{Holds}
-use Rattle.jobs.specs.Fields.{Kind, greatest, smallest, scaledAdd, product, unknown, kindOf, badExtreme, badUsedFor, badUsed, unusedZeroFor, unusedZero}
-use Rattle.jobs.specs.Places.{inTableFor, inTable, badHeld, first, firstFor, moved, nextBelow, afterTrial, afterSecond, next}
-use Rattle.jobs.specs.Commands.{command, look, bitOf, trial, second}
+use Rattle.plans.specs.declared.Job.{Job}
+use Rattle.plans.specs.declared.Held.the-variants.{Holds}
+use Rattle.plans.specs.Fields.{Kind, greatest, smallest, scaledAdd, product, unknown, kindOf, badExtreme, badUsedFor, badUsed, unusedZeroFor, unusedZero}
+use Rattle.plans.specs.Places.{inTableFor, inTable, badHeld, first, firstFor, moved, nextBelow, afterTrial, afterSecond, next}
+use Rattle.plans.specs.Commands.{command, look, bitOf, trial, second}
 use Rattle.ends.proofs.Fields.{extreme-fields}
 use Rattle.ends.proofs.Trials.{below-is, Plan}
 

@@ -7,11 +7,11 @@ use native.Mathlib.Omega.{arith}
 use lib.Dec.{ltb}
 use Rattle.laws.specs.Bits.{digit}
 use Rattle.machine.specs.Machine.{Machine}
-use Rattle.jobs.specs.declared.Job.{Job}
-use Rattle.jobs.specs.declared.Held.the-variants.{Holds}
-use Rattle.jobs.specs.Fields.{product, kindOf, badScaledAdd, badProduct, badUsed}
-use Rattle.jobs.specs.Places.{first, firstFor, moved}
-use Rattle.jobs.specs.Totals.{sumBelow, valueOf, pulses}
+use Rattle.plans.specs.declared.Job.{Job}
+use Rattle.plans.specs.declared.Held.the-variants.{Holds}
+use Rattle.plans.specs.Fields.{product, kindOf, badScaledAdd, badProduct, badUsed}
+use Rattle.plans.specs.Places.{first, firstFor, moved}
+use Rattle.tally.specs.Totals.{sumBelow, valueOf, pulses}
 use Rattle.ends.specs.Ends.{Accepted, Course, ended, productGain, Adds}
 use Rattle.ends.proofs.Fields.{ProductFields, product-fields}
 use Rattle.ends.proofs.Passing.{adds-like}

@@ -13,11 +13,11 @@ use borrow.Author.Tests.{lt-ltb, le-ltb, ltb-true}
 use Rattle.laws.specs.Bits.{bit, pick}
 use Rattle.laws.proofs.Digits.{Bit, off, on}
 use Rattle.laws.proofs.Bits.{digit-at, or-bit}
-use Rattle.jobs.specs.declared.Job.{Job}
-use Rattle.jobs.specs.declared.Held.the-variants.{Holds}
-use Rattle.jobs.specs.Fields.{product, kindOf, badScaledAdd, badProduct, badUsed, unusedZero}
-use Rattle.jobs.specs.Places.{inTable, badHeld, moved, nextAbove, nextWithin, next}
-use Rattle.jobs.specs.Commands.{command, bitOf}
+use Rattle.plans.specs.declared.Job.{Job}
+use Rattle.plans.specs.declared.Held.the-variants.{Holds}
+use Rattle.plans.specs.Fields.{product, kindOf, badScaledAdd, badProduct, badUsed, unusedZero}
+use Rattle.plans.specs.Places.{inTable, badHeld, moved, nextAbove, nextWithin, next}
+use Rattle.plans.specs.Commands.{command, bitOf}
 use Rattle.ends.proofs.Agreeing.{agrees, agrees-two, one-here}
 use Rattle.ends.proofs.Fields.{ProductFields, product-fields}
 use Rattle.ends.proofs.Visits.{Stop, start, Good, Route}

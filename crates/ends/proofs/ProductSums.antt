@@ -12,8 +12,8 @@ use borrow.Author.Tests.{leb-true, leb-false}
 use Rattle.laws.specs.Bits.{bit, digit}
 use Rattle.laws.proofs.Digits.{Bit, off, on}
 use Rattle.laws.proofs.Bits.{digit-at}
-use Rattle.jobs.specs.declared.Job.{Job}
-use Rattle.jobs.specs.Totals.{valueOf}
+use Rattle.plans.specs.declared.Job.{Job}
+use Rattle.tally.specs.Totals.{valueOf}
 use Rattle.ends.proofs.Parts.{part, part-none, part-low, part-shorter, value-is}
 use Rattle.ends.proofs.Visits.{Stop, total}
 use Rattle.ends.proofs.ScaledPlaces.{lesser}

@@ -5,11 +5,11 @@ use mathlib.Core.Path.{_≡_, refl, _∙_}
 use mathlib.Core.Bool.{false}
 use native.Mathlib.Omega.{arith}
 use Rattle.machine.specs.Machine.{Machine}
-use Rattle.jobs.specs.declared.Job.{Job}
-use Rattle.jobs.specs.declared.Held.the-variants.{Holds}
-use Rattle.jobs.specs.Fields.{scaledAdd, kindOf, badScaledAdd, badUsed}
-use Rattle.jobs.specs.Places.{first, firstFor, moved}
-use Rattle.jobs.specs.Totals.{valueOf, pulses}
+use Rattle.plans.specs.declared.Job.{Job}
+use Rattle.plans.specs.declared.Held.the-variants.{Holds}
+use Rattle.plans.specs.Fields.{scaledAdd, kindOf, badScaledAdd, badUsed}
+use Rattle.plans.specs.Places.{first, firstFor, moved}
+use Rattle.tally.specs.Totals.{valueOf, pulses}
 use Rattle.ends.specs.Ends.{Accepted, Course, ended, scaledGain, Adds}
 use Rattle.ends.proofs.Fields.{AddFields, add-fields}
 use Rattle.ends.proofs.Passing.{adds-like}

@@ -12,11 +12,11 @@ use lib.ListN.{length}
 use lib.Pow.{pow-pos}
 use borrow.Author.Tests.{lt-ltb, le-ltb, ltb-true}
 use Rattle.laws.specs.Bits.{bit, pick}
-use Rattle.jobs.specs.declared.Job.{Job}
-use Rattle.jobs.specs.declared.Held.the-variants.{Nothing, Holds}
-use Rattle.jobs.specs.Fields.{scaledAdd, kindOf, isZero, badScaledAdd, badUsed, unusedZero}
-use Rattle.jobs.specs.Places.{inTable, badHeld, moved, nextAbove, next}
-use Rattle.jobs.specs.Commands.{command, bitOf}
+use Rattle.plans.specs.declared.Job.{Job}
+use Rattle.plans.specs.declared.Held.the-variants.{Nothing, Holds}
+use Rattle.plans.specs.Fields.{scaledAdd, kindOf, isZero, badScaledAdd, badUsed, unusedZero}
+use Rattle.plans.specs.Places.{inTable, badHeld, moved, nextAbove, next}
+use Rattle.plans.specs.Commands.{command, bitOf}
 use Rattle.ends.proofs.Agreeing.{agrees-one, one-here}
 use Rattle.ends.proofs.Fields.{AddFields, add-fields}
 use Rattle.ends.proofs.Visits.{Stop, start, Good, Route}

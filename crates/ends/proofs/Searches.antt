@@ -12,8 +12,8 @@ use Rattle.laws.proofs.Lists.{zip-kept}
 use Rattle.machine.specs.Machine.{Machine, responseBits, selected}
 use Rattle.machine.specs.Pulse.{counts, countOf, pulsed}
 use Rattle.machine.proofs.Checks.{Sound}
-use Rattle.jobs.specs.declared.Command.{Command}
-use Rattle.jobs.specs.Commands.{look}
+use Rattle.plans.specs.declared.Command.{Command}
+use Rattle.plans.specs.Commands.{look}
 use Rattle.ends.specs.Ends.{word, response, SameSize}
 use Rattle.ends.proofs.Agreeing.{agrees}
 use Rattle.ends.proofs.Looking.{look-matches, look-word, look-target, look-others}

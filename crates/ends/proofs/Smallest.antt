@@ -14,11 +14,11 @@ use Rattle.laws.specs.Bits.{bit, digit}
 use Rattle.laws.proofs.Digits.{Bit, off, on}
 use Rattle.laws.proofs.Bits.{digit-at, not-bit, bit-none}
 use Rattle.machine.specs.Machine.{Machine}
-use Rattle.jobs.specs.declared.Job.{Job}
-use Rattle.jobs.specs.Fields.{smallest, kindOf, badExtreme, badUsed}
-use Rattle.jobs.specs.Places.{first}
-use Rattle.jobs.specs.Commands.{bitOf}
-use Rattle.jobs.specs.Totals.{ones, zeros, valueOf, values, smallestOf, pulses}
+use Rattle.plans.specs.declared.Job.{Job}
+use Rattle.plans.specs.Fields.{smallest, kindOf, badExtreme, badUsed}
+use Rattle.plans.specs.Places.{first}
+use Rattle.plans.specs.Commands.{bitOf}
+use Rattle.tally.specs.Totals.{ones, zeros, valueOf, values, smallestOf, pulses}
 use Rattle.ends.specs.Ends.{Accepted, word, chosen, Course, ended, Marks}
 use Rattle.ends.proofs.Agreeing.{agrees, agrees-one}
 use Rattle.ends.proofs.Parts.{value-lt, value-bit}

@@ -8,14 +8,14 @@ use Rattle.machine.specs.declared.Refusal.the-variants.{Unfit}
 use Rattle.machine.specs.Machine.{Machine}
 use Rattle.machine.specs.Refusals.{_else_, refuse, machineCheck}
 use Rattle.machine.proofs.Checks.{Sound, sound, else-passed, not-refused}
-use Rattle.jobs.specs.declared.Job.{Job}
-use Rattle.jobs.specs.declared.Held.{Held}
-use Rattle.jobs.specs.declared.Held.the-variants.{Nothing, Holds}
+use Rattle.plans.specs.declared.Job.{Job}
+use Rattle.plans.specs.declared.Held.{Held}
+use Rattle.plans.specs.declared.Held.the-variants.{Nothing, Holds}
 use Rattle.jobs.specs.declared.Started.the-variants as started
-use Rattle.jobs.specs.Fields.{badUsed}
-use Rattle.jobs.specs.Places.{first}
+use Rattle.plans.specs.Fields.{badUsed}
+use Rattle.plans.specs.Places.{first}
 use Rattle.jobs.specs.Calls.{isHeld, startCheck, startedBy, startOf}
-use Rattle.jobs.specs.Totals.{pulses}
+use Rattle.tally.specs.Totals.{pulses}
 use Rattle.jobs.specs.Runs.{State}
 use Rattle.ends.specs.Ends.{Accepted, begun, Course, ended}
 use Rattle.ends.proofs.Machines.{passes}

@@ -11,14 +11,14 @@ use Rattle.machine.specs.declared.Refusal.the-variants.{Unfit}
 use Rattle.machine.specs.Machine.{Machine}
 use Rattle.machine.specs.Pulse.{countOf, pulsed}
 use Rattle.machine.proofs.Checks.{Sound}
-use Rattle.jobs.specs.declared.Job.{Job}
-use Rattle.jobs.specs.declared.Held.{Held}
-use Rattle.jobs.specs.declared.Held.the-variants.{Nothing, Holds}
-use Rattle.jobs.specs.declared.Command.{Command}
+use Rattle.plans.specs.declared.Job.{Job}
+use Rattle.plans.specs.declared.Held.{Held}
+use Rattle.plans.specs.declared.Held.the-variants.{Nothing, Holds}
+use Rattle.plans.specs.declared.Command.{Command}
 use Rattle.jobs.specs.declared.Stepped.{Stepped}
 use Rattle.jobs.specs.declared.Stepped.the-variants as answer
-use Rattle.jobs.specs.Places.{badHeld, next}
-use Rattle.jobs.specs.Commands.{command}
+use Rattle.plans.specs.Places.{badHeld, next}
+use Rattle.plans.specs.Commands.{command}
 use Rattle.jobs.specs.Calls.{stepCheck, steppedBy, stepOf, machineAfter, afterStep}
 use Rattle.jobs.specs.Runs.{State, heldAfter, stepped, steps}
 use Rattle.ends.specs.Ends.{Gives}

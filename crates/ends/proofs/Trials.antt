@@ -11,10 +11,10 @@ use Rattle.laws.specs.Bits.{bit, pick, digit}
 use Rattle.laws.proofs.Bits.{bit-none}
 use Rattle.machine.specs.Machine.{Machine, responseBits, selected}
 use Rattle.machine.proofs.Checks.{Sound}
-use Rattle.jobs.specs.declared.Job.{Job}
-use Rattle.jobs.specs.declared.Held.the-variants.{Holds}
-use Rattle.jobs.specs.Places.{badHeld, moved, nextBelow, next}
-use Rattle.jobs.specs.Commands.{command, look, bitOf}
+use Rattle.plans.specs.declared.Job.{Job}
+use Rattle.plans.specs.declared.Held.the-variants.{Holds}
+use Rattle.plans.specs.Places.{badHeld, moved, nextBelow, next}
+use Rattle.plans.specs.Commands.{command, look, bitOf}
 use Rattle.ends.specs.Ends.{word, response, chosen, SameSize}
 use Rattle.ends.proofs.Agreeing.{agrees, agrees-none, selected-one}
 use Rattle.ends.proofs.Searches.{search-sound, search-size, search-words, search-target, search-others, search-none, search-some}

@@ -9,11 +9,11 @@ use lib.ListN.{length}
 use Rattle.laws.specs.Bits.{bit, digit}
 use Rattle.machine.specs.Machine.{Machine}
 use Rattle.machine.proofs.Checks.{Sound}
-use Rattle.jobs.specs.declared.Job.{Job}
-use Rattle.jobs.specs.declared.Held.{Held}
-use Rattle.jobs.specs.declared.Held.the-variants.{Nothing, Holds}
-use Rattle.jobs.specs.Places.{badHeld, moved, next}
-use Rattle.jobs.specs.Commands.{command, look, plus}
+use Rattle.plans.specs.declared.Job.{Job}
+use Rattle.plans.specs.declared.Held.{Held}
+use Rattle.plans.specs.declared.Held.the-variants.{Nothing, Holds}
+use Rattle.plans.specs.Places.{badHeld, moved, next}
+use Rattle.plans.specs.Commands.{command, look, plus}
 use Rattle.ends.specs.Ends.{Outside, Adds}
 use Rattle.ends.proofs.Agreeing.{agrees}
 use Rattle.ends.proofs.Machines.{width-is}

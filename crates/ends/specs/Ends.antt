@@ -11,15 +11,15 @@ use Rattle.machine.specs.declared.Check.the-variants as check
 use Rattle.machine.specs.Machine.{Machine, responseBits, selected}
 use Rattle.machine.specs.Pulse.{countOf, pulsed}
 use Rattle.machine.specs.Refusals.{machineCheck}
-use Rattle.jobs.specs.declared.Span.{Span}
-use Rattle.jobs.specs.declared.Job.{Job}
-use Rattle.jobs.specs.declared.Held.the-variants.{Nothing, Holds}
+use Rattle.plans.specs.declared.Span.{Span}
+use Rattle.plans.specs.declared.Job.{Job}
+use Rattle.plans.specs.declared.Held.the-variants.{Nothing, Holds}
 use Rattle.jobs.specs.declared.Started.the-variants as started
 use Rattle.jobs.specs.declared.Stepped.the-variants as answer
-use Rattle.jobs.specs.Places.{first, next}
-use Rattle.jobs.specs.Commands.{command}
+use Rattle.plans.specs.Places.{first, next}
+use Rattle.plans.specs.Commands.{command}
 use Rattle.jobs.specs.Calls.{startOf, stepOf}
-use Rattle.jobs.specs.Totals.{valueOf, pulses}
+use Rattle.tally.specs.Totals.{valueOf, pulses}
 use Rattle.jobs.specs.Runs.{State, stepped, steps}
 
 -- word k and its response

@@ -16,14 +16,14 @@ use Rattle.machine.specs.declared.Refusal.the-variants.{Unfit, NoRoom}
 use Rattle.machine.specs.Machine.{machine}
 use Rattle.machine.specs.Refusals.{_else_, refuse, machineCheck}
 use Rattle.machine.proofs.Checks.{else-passed, not-refused, or-left, or-right}
-use Rattle.jobs.specs.declared.Held.{Held}
+use Rattle.plans.specs.declared.Held.{Held}
 use Rattle.jobs.specs.Runs.{State}
 use Rattle.image.specs.declared.Wrote.the-variants as wrote
 use Rattle.image.specs.declared.Read.the-variants as read
-use Rattle.image.specs.Format.{imageOf}
-use Rattle.image.specs.Reading.{wordsIn, scanned, stateIn}
+use Rattle.layout.specs.Format.{imageOf}
+use Rattle.layout.specs.Reading.{wordsIn, scanned, stateIn}
 use Rattle.image.specs.Calls.{badJob, writeCheck, wroteBy, writeOf, outBy, written, refuseBytes, readCheck, readBy, readOf, wordsRead, responsesRead}
-use Rattle.image.proofs.Bytes.{AreBytes, length-numbers}
+use Rattle.layout.proofs.Bytes.{AreBytes, length-numbers}
 use Rattle.image.proofs.RoundTrip.{ConstantFits, Stored, plain, roundTrip}
 use Rattle.hosts.specs.Images.{Stores, Resumes}
 

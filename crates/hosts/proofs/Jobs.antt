@@ -15,20 +15,20 @@ use Rattle.machine.specs.declared.Refusal.the-variants.{Unfit}
 use Rattle.machine.specs.Machine.{Machine}
 use Rattle.machine.specs.Refusals.{machineCheck}
 use Rattle.machine.proofs.Checks.{sound, else-passed, not-refused}
-use Rattle.jobs.specs.declared.Job.{Job}
-use Rattle.jobs.specs.declared.Held.{Held}
-use Rattle.jobs.specs.declared.Held.the-variants.{Nothing, Holds}
-use Rattle.jobs.specs.declared.Command.{Command}
+use Rattle.plans.specs.declared.Job.{Job}
+use Rattle.plans.specs.declared.Held.{Held}
+use Rattle.plans.specs.declared.Held.the-variants.{Nothing, Holds}
+use Rattle.plans.specs.declared.Command.{Command}
 use Rattle.jobs.specs.declared.Stepped.the-variants as answer
-use Rattle.jobs.specs.Places.{first}
+use Rattle.plans.specs.Places.{first}
 use Rattle.jobs.specs.Calls.{badStep, stepCheck, gave, steppedBy, stepOf}
-use Rattle.jobs.specs.Totals.{pulses}
+use Rattle.tally.specs.Totals.{pulses}
 use Rattle.jobs.specs.Runs.{State, stepped, steps}
 use Rattle.ends.specs.Ends.{Accepted, begun, Gives, ended}
 use Rattle.ends.proofs.Steps.{given-passed, steps-on, steps-last}
 use Rattle.ends.proofs.Machines.{words-length}
 use Rattle.ends.proofs.Ends.{course, not-over, stays-over}
-use Rattle.image.specs.Format.{imageOf}
+use Rattle.layout.specs.Format.{imageOf}
 use Rattle.image.specs.Calls.{badJob}
 use Rattle.image.proofs.RoundTrip.{Stored}
 use Rattle.hosts.specs.Images.{Stores, Resumes}

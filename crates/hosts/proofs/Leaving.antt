@@ -20,15 +20,15 @@ use Rattle.machine.specs.Search.{matches, marked}
 use Rattle.machine.specs.Pulse.{flipped, responseAfter, pulsed}
 use Rattle.machine.specs.Refusals.{machineCheck, pulseCheck, changeBy, after}
 use Rattle.machine.proofs.Checks.{sound, clean, else-passed, not-refused, or-right}
-use Rattle.jobs.specs.declared.Held.{Held}
-use Rattle.jobs.specs.declared.Held.the-variants.{Holds}
-use Rattle.jobs.specs.declared.Command.{Command}
+use Rattle.plans.specs.declared.Held.{Held}
+use Rattle.plans.specs.declared.Held.the-variants.{Holds}
+use Rattle.plans.specs.declared.Command.{Command}
 use Rattle.jobs.specs.declared.Stepped.{Stepped}
 use Rattle.jobs.specs.declared.Stepped.the-variants as answer
-use Rattle.jobs.specs.declared.Job.{Job}
-use Rattle.jobs.specs.Fields.{Kind, greatest, smallest, scaledAdd, product, unknown, kindOf, badUsed, unusedZero}
-use Rattle.jobs.specs.Places.{atPlace, inTableFor, inTable, badHeld}
-use Rattle.jobs.specs.Commands.{look, opening, trial, second, command}
+use Rattle.plans.specs.declared.Job.{Job}
+use Rattle.plans.specs.Fields.{Kind, greatest, smallest, scaledAdd, product, unknown, kindOf, badUsed, unusedZero}
+use Rattle.plans.specs.Places.{atPlace, inTableFor, inTable, badHeld}
+use Rattle.plans.specs.Commands.{look, opening, trial, second, command}
 use Rattle.jobs.specs.Calls.{stepCheck, gave, steppedBy, stepOf, machineAfter, afterStep}
 use Rattle.jobs.specs.Runs.{State, stepped}
 use Rattle.ends.proofs.Machines.{passes, same, response-at, responses-length}

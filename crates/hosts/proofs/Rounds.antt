@@ -28,7 +28,7 @@ use Rattle.rounds.proofs.Passing.{Fit, acceptable, accepted}
 use Rattle.rounds.proofs.Responders.{first-of-rest}
 use Rattle.rounds.proofs.Handout.{HandedOut, handed-out}
 use Rattle.jobs.specs.Runs.{State}
-use Rattle.image.specs.Format.{imageOf}
+use Rattle.layout.specs.Format.{imageOf}
 use Rattle.hosts.specs.Images.{Stores, Resumes}
 use Rattle.hosts.specs.Rounds as events
 use Rattle.hosts.specs.Rounds.{Responder, lower, Phase, ready, showing, answered, pending, settled, Entry, Hosted, Again, Orderly, Shown}

@@ -30,8 +30,8 @@ use Rattle.rounds.proofs.Marks.{put-lt}
 use Rattle.rounds.proofs.Passing.{Fit, bits-fit}
 use Rattle.rounds.proofs.Handout.{refused-nothing}
 use Rattle.jobs.specs.Runs.{State}
-use Rattle.image.specs.Format.{imageOf}
-use Rattle.image.proofs.Bytes.{AreBytes}
+use Rattle.layout.specs.Format.{imageOf}
+use Rattle.layout.proofs.Bytes.{AreBytes}
 use Rattle.image.proofs.RoundTrip.{Stored}
 use Rattle.hosts.specs.Images.{Stores, Resumes}
 use Rattle.hosts.specs.Rounds as events

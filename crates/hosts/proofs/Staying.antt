@@ -9,19 +9,19 @@ use lib.Dec.{ltb, eqb}
 use borrow.Author.Tests.{eqb-true, ltb-true, lt-ltb}
 use Rattle.laws.specs.Bits.{pick}
 use Rattle.laws.proofs.Bits.{and-left, and-right}
-use Rattle.jobs.specs.declared.Job.{Job}
-use Rattle.jobs.specs.declared.Held.{Held}
-use Rattle.jobs.specs.declared.Held.the-variants.{Nothing, Holds}
-use Rattle.jobs.specs.Fields.{Kind, greatest, smallest, scaledAdd, product, unknown, kindOf, badExtreme, badScaledAdd, badProduct, badUsedFor, badUsed, isZero, unusedZeroFor, unusedZero}
-use Rattle.jobs.specs.Places.{atPlace, inTableFor, inTable, badHeld, moved, nextBelow, nextAbove, nextWithin, afterTrial, afterSecond, next}
-use Rattle.jobs.proofs.Fair.{Fair, fair}
+use Rattle.plans.specs.declared.Job.{Job}
+use Rattle.plans.specs.declared.Held.{Held}
+use Rattle.plans.specs.declared.Held.the-variants.{Nothing, Holds}
+use Rattle.plans.specs.Fields.{Kind, greatest, smallest, scaledAdd, product, unknown, kindOf, badExtreme, badScaledAdd, badProduct, badUsedFor, badUsed, isZero, unusedZeroFor, unusedZero}
+use Rattle.plans.specs.Places.{atPlace, inTableFor, inTable, badHeld, moved, nextBelow, nextAbove, nextWithin, afterTrial, afterSecond, next}
+use Rattle.plans.proofs.Fair.{Fair, fair}
 use Rattle.machine.specs.declared.Panel.{Panel}
 use Rattle.machine.specs.declared.Lines.{Lines}
 use Rattle.machine.specs.declared.Check.{Check}
 use Rattle.machine.specs.declared.Check.the-variants as check
 use Rattle.machine.specs.Machine.{Machine}
 use Rattle.machine.specs.Pulse.{pulsed}
-use Rattle.jobs.specs.declared.Command.{Command}
+use Rattle.plans.specs.declared.Command.{Command}
 use Rattle.jobs.specs.declared.Started.the-variants as started
 use Rattle.jobs.specs.declared.Stepped.the-variants as answer
 use Rattle.jobs.specs.Calls.{startOf, stepCheck, gave, steppedBy, stepOf}
@@ -29,7 +29,7 @@ use Rattle.jobs.specs.Runs.{State, heldAfter, stepped, steps}
 use Rattle.ends.specs.Ends.{Accepted}
 use Rattle.ends.proofs.Starts.{accepted-is}
 use Rattle.image.specs.Calls.{badJob}
-use Rattle.image.proofs.Bytes.{AreBytes}
+use Rattle.layout.proofs.Bytes.{AreBytes}
 use Rattle.hosts.specs.Rounds as events
 use Rattle.hosts.specs.Rounds.{Other}
 use Rattle.hosts.proofs.Images.{Typed}

@@ -14,16 +14,16 @@ use Rattle.machine.specs.declared.Lines.{Lines}
 use Rattle.machine.specs.Machine.{Machine, responseBits, selected}
 use Rattle.machine.specs.Search.{matches, marked}
 use Rattle.machine.specs.Pulse.{flipped, responseAfter, pulsed}
-use Rattle.jobs.specs.declared.Job.{Job}
-use Rattle.jobs.specs.declared.Held.{Held}
-use Rattle.jobs.specs.declared.Held.the-variants.{Nothing, Holds}
-use Rattle.jobs.specs.Fields.{Kind, greatest, smallest, scaledAdd, product, unknown, kindOf}
-use Rattle.jobs.specs.Places.{firstFor, first, moved, nextBelow, nextAbove, nextWithin, afterTrial, afterSecond, next}
+use Rattle.plans.specs.declared.Job.{Job}
+use Rattle.plans.specs.declared.Held.{Held}
+use Rattle.plans.specs.declared.Held.the-variants.{Nothing, Holds}
+use Rattle.plans.specs.Fields.{Kind, greatest, smallest, scaledAdd, product, unknown, kindOf}
+use Rattle.plans.specs.Places.{firstFor, first, moved, nextBelow, nextAbove, nextWithin, afterTrial, afterSecond, next}
 use Rattle.jobs.specs.Calls.{stepCheck, steppedBy, gave, stepOf, machineAfter, afterStep}
 use Rattle.jobs.specs.Runs.{State, heldAfter, stepped}
 use Rattle.machine.specs.declared.Check.{Check}
 use Rattle.machine.specs.declared.Check.the-variants as check
-use Rattle.image.proofs.Bytes.{AreBytes}
+use Rattle.layout.proofs.Bytes.{AreBytes}
 use Rattle.image.proofs.RoundTrip.{ConstantFits}
 use Rattle.hosts.proofs.Images.{Typed}
 

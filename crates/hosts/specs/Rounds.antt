@@ -17,13 +17,13 @@ use Rattle.rounds.specs.declared.Verdict.{Verdict}
 use Rattle.rounds.specs.declared.Reply.the-variants as reply
 use Rattle.rounds.specs.Round.{showOf, replyOf, afterAnswer}
 use Rattle.rounds.specs.Handout.{numbersWith, response}
-use Rattle.jobs.specs.declared.Job.{Job}
-use Rattle.jobs.specs.declared.Held.{Held}
-use Rattle.jobs.specs.declared.Held.the-variants.{Holds}
-use Rattle.jobs.specs.declared.Command.{Command}
+use Rattle.plans.specs.declared.Job.{Job}
+use Rattle.plans.specs.declared.Held.{Held}
+use Rattle.plans.specs.declared.Held.the-variants.{Holds}
+use Rattle.plans.specs.declared.Command.{Command}
 use Rattle.jobs.specs.declared.Started.the-variants as started
 use Rattle.jobs.specs.declared.Stepped.the-variants as answer
-use Rattle.jobs.specs.Fields.{Kind, greatest, smallest, scaledAdd, product, unknown, kindOf}
+use Rattle.plans.specs.Fields.{Kind, greatest, smallest, scaledAdd, product, unknown, kindOf}
 use Rattle.jobs.specs.Calls.{startOf, stepOf}
 use Rattle.jobs.specs.Runs.{State, stepped}
 use Rattle.hosts.specs.Images.{Stores, Resumes}

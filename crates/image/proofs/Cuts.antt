@@ -12,11 +12,11 @@ use lib.ListN.{length, take, drop, replicate, length-drop}
 use lib.Seq.{take-take, getD-take, length-take-le}
 use borrow.Author.Tests.{lt-ltb, le-ltb, ltb-true, ltb-false, eqb-true}
 use Rattle.laws.specs.Bits.{pick}
-use Rattle.image.specs.declared.Scanned.the-variants.{Sound, Broken}
+use Rattle.layout.specs.declared.Scanned.the-variants.{Sound, Broken}
 use Rattle.jobs.specs.Runs.{State}
-use Rattle.image.specs.Format.{value, byte, imageOf}
-use Rattle.image.specs.Reading.{Field, scan, countIs, wordCount, widthByte, wordField, responseField, jobCount, jobField, widthIn, wordsIn, jobsIn, fieldsOf, scanned}
-use Rattle.image.proofs.Bytes.{drop-take}
+use Rattle.layout.specs.Format.{value, byte, imageOf}
+use Rattle.layout.specs.Reading.{Field, scan, countIs, wordCount, widthByte, wordField, responseField, jobCount, jobField, widthIn, wordsIn, jobsIn, fieldsOf, scanned}
+use Rattle.layout.proofs.Bytes.{drop-take}
 use Rattle.image.proofs.RoundTrip.{Stored, image-sound}
 
 -- ---- every place is within the bytes

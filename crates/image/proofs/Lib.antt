@@ -1,7 +1,4 @@
--- laws of the image: bytes and numbers, stores, fields, the calls, sections; then the theorems
-pub mod Bytes
-pub mod Storing
-pub mod Scans
+-- laws of the calls and of sections; then the theorems
 pub mod WriteCalls
 pub mod ReadCalls
 pub mod Sections

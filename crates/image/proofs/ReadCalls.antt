@@ -7,30 +7,23 @@ use mathlib.Core.List.{List}
 use lib.Dec.{ltb, eqb}
 use lib.ListN.{length, take, drop}
 use lib.Seq.{sets}
-use borrow.Author.Tests.{ltb-false, eq-eqb, ne-eqb}
+use borrow.Author.Tests.{ltb-false}
 use Rattle.laws.specs.Bits.{pick}
 use Rattle.machine.specs.declared.Refusal.{Refusal}
 use Rattle.machine.specs.declared.Refusal.the-variants.{Malformed, NoRoom}
 use Rattle.machine.specs.declared.Check.{Check}
 use Rattle.machine.specs.declared.Check.the-variants.{Passed, Refused}
 use Rattle.machine.proofs.Checks.{else-passed, not-refused, or-left, or-right}
-use Rattle.jobs.specs.declared.Held.{Held}
-use Rattle.jobs.specs.declared.Held.the-variants.{Nothing, Holds}
-use Rattle.image.specs.declared.Scanned.{Scanned}
-use Rattle.image.specs.declared.Scanned.the-variants.{Sound, Broken}
+use Rattle.plans.specs.declared.Held.{Held}
+use Rattle.plans.specs.declared.Held.the-variants.{Nothing, Holds}
+use Rattle.layout.specs.declared.Scanned.{Scanned}
+use Rattle.layout.specs.declared.Scanned.the-variants.{Sound, Broken}
 use Rattle.image.specs.declared.Read.the-variants as read
-use Rattle.image.specs.Format.{value, jobOf}
-use Rattle.image.specs.Reading.{scanned, stateIn, widthIn, wordsIn, heldIn, numbers}
+use Rattle.layout.specs.Format.{value, jobOf}
+use Rattle.layout.specs.Reading.{scanned, stateIn, widthIn, wordsIn, heldIn, numbers}
 use Rattle.image.specs.Calls.{refuseBytes, readCheck, readOf, wordsRead, responsesRead}
-use Rattle.image.proofs.Bytes.{length-numbers}
-use Rattle.image.proofs.Scans.{Long, long}
-
--- what is picked by a count of 0, and by another
-pub zero-picks : {A : Type 0} (v : ℕ) (x y : A) → v ≡ 0 → x ≡ pick (eqb v 0) x y
-zero-picks v x y e = rw (eq-eqb v 0 e)
-
-pub other-picks : {A : Type 0} (v : ℕ) (x y : A) → (v ≡ 0 → ⊥) → y ≡ pick (eqb v 0) x y
-other-picks v x y e = rw (ne-eqb v 0 e)
+use Rattle.layout.proofs.Bytes.{length-numbers}
+use Rattle.parts.proofs.Scans.{Long, long}
 
 -- ---- the checks
 

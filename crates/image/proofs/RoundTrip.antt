@@ -15,19 +15,19 @@ use Rattle.laws.specs.Bits.{pick}
 use Rattle.machine.specs.declared.Check.the-variants.{Passed}
 use Rattle.machine.specs.Refusals.{badSize, badWidth, machineCheck}
 use Rattle.machine.proofs.Checks as checks
-use Rattle.jobs.specs.declared.Job.{Job}
-use Rattle.jobs.specs.declared.Held.{Held}
-use Rattle.jobs.specs.declared.Held.the-variants.{Nothing, Holds}
-use Rattle.jobs.specs.Places.{badHeld}
+use Rattle.plans.specs.declared.Job.{Job}
+use Rattle.plans.specs.declared.Held.{Held}
+use Rattle.plans.specs.declared.Held.the-variants.{Nothing, Holds}
+use Rattle.plans.specs.Places.{badHeld}
 use Rattle.jobs.specs.Runs.{State}
-use Rattle.image.specs.declared.Scanned.the-variants.{Sound}
-use Rattle.image.specs.Format.{bytes, value, items, section, jobBytes, jobOf, heldJobs, imageOf}
-use Rattle.image.specs.Reading.{Field, scan, countIs, wordCount, widthByte, wordField, responseField, jobCount, jobField, widthIn, wordsIn, jobsAt, jobsIn, heldIn, fieldsOf, scanned, numbers, stateIn}
+use Rattle.layout.specs.declared.Scanned.the-variants.{Sound}
+use Rattle.layout.specs.Format.{bytes, value, items, section, jobBytes, jobOf, heldJobs, imageOf}
+use Rattle.layout.specs.Reading.{Field, scan, countIs, wordCount, widthByte, wordField, responseField, jobCount, jobField, widthIn, wordsIn, jobsAt, jobsIn, heldIn, fieldsOf, scanned, numbers, stateIn}
 use Rattle.image.specs.Calls.{badJob}
-use Rattle.image.specs.Parts.{machineBytes}
-use Rattle.image.proofs.Bytes.{Under, AreBytes, under-more, length-bytes, length-items, value-bytes, length-job, job-back}
+use Rattle.parts.specs.Parts.{machineBytes}
+use Rattle.layout.proofs.Bytes.{Under, AreBytes, under-more, length-bytes, length-items, value-bytes, length-job, job-back}
 use Rattle.image.proofs.WriteCalls.{whole, length-machine, same-size}
-use Rattle.image.proofs.ReadCalls.{zero-picks, other-picks}
+use Rattle.layout.proofs.Bytes.{zero-picks, other-picks}
 use Rattle.image.proofs.Sections.{passed, words-pass, responses-pass, numbers-back, all-fit}
 
 -- c is a number of 64 bits

@@ -15,11 +15,11 @@ use Rattle.laws.specs.Bits.{pick}
 use Rattle.machine.specs.declared.Found.the-variants.{At, Nothing}
 use Rattle.machine.specs.Resolution.{lowest}
 use Rattle.machine.specs.Refusals.{tooWide}
-use Rattle.image.specs.declared.Scanned.the-variants.{Sound, Broken}
-use Rattle.image.specs.Format.{bytes, value, items, jobBytes, jobOf}
-use Rattle.image.specs.Reading.{Field, scan, wordField, responseField, numbers}
-use Rattle.image.proofs.Bytes.{Under, AreBytes, under-take, under-drop, length-bytes, value-bytes, bytes-value, job-law}
-use Rattle.image.proofs.Scans.{next}
+use Rattle.layout.specs.declared.Scanned.the-variants.{Sound, Broken}
+use Rattle.layout.specs.Format.{bytes, value, items, jobBytes, jobOf}
+use Rattle.layout.specs.Reading.{Field, scan, wordField, responseField, numbers}
+use Rattle.layout.proofs.Bytes.{Under, AreBytes, under-take, under-drop, length-bytes, value-bytes, bytes-value, job-law}
+use Rattle.parts.proofs.Scans.{next}
 
 -- ---- written: a field that is right is passed
 

@@ -16,17 +16,17 @@ use borrow.Author.Tests.{leb-true, eqb-true, eq-eqb, ne-eqb, le-ltb, not-true}
 use Rattle.laws.specs.Bits.{pick}
 use Rattle.laws.proofs.Bits.{and-left, and-right}
 use Rattle.machine.specs.Refusals.{badSize, badWidth, machineCheck}
-use Rattle.jobs.specs.declared.Held.{Held}
-use Rattle.jobs.specs.declared.Held.the-variants.{Nothing, Holds}
-use Rattle.jobs.specs.Places.{badHeld}
+use Rattle.plans.specs.declared.Held.{Held}
+use Rattle.plans.specs.declared.Held.the-variants.{Nothing, Holds}
+use Rattle.plans.specs.Places.{badHeld}
 use Rattle.jobs.specs.Runs.{State}
-use Rattle.image.specs.declared.Scanned.the-variants.{Sound}
-use Rattle.image.specs.Format.{bytes, value, items, section, jobBytes, jobOf, heldJobs, imageOf}
-use Rattle.image.specs.Reading.{scan, countIs, wordCount, widthByte, wordField, responseField, jobCount, jobField, widthIn, wordsIn, jobsAt, jobsIn, heldIn, fieldsOf, scanned, numbers, stateIn}
+use Rattle.layout.specs.declared.Scanned.the-variants.{Sound}
+use Rattle.layout.specs.Format.{bytes, value, items, section, jobBytes, jobOf, heldJobs, imageOf}
+use Rattle.layout.specs.Reading.{scan, countIs, wordCount, widthByte, wordField, responseField, jobCount, jobField, widthIn, wordsIn, jobsAt, jobsIn, heldIn, fieldsOf, scanned, numbers, stateIn}
 use Rattle.image.specs.Calls.{badJob}
-use Rattle.image.proofs.Bytes.{Under, AreBytes, under-drop, under-take, length-numbers, value-one}
-use Rattle.image.proofs.Scans.{next, run}
-use Rattle.image.proofs.ReadCalls.{zero-picks, other-picks}
+use Rattle.layout.proofs.Bytes.{Under, AreBytes, under-drop, under-take, length-numbers, value-one}
+use Rattle.parts.proofs.Scans.{next, run}
+use Rattle.layout.proofs.Bytes.{zero-picks, other-picks}
 use Rattle.image.proofs.Sections.{number-cut, items-cut, job-cut, words-held, none-wide, nothing-left}
 use Rattle.image.proofs.RoundTrip.{ConstantFits, Stored, flat}
 

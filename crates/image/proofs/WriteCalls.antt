@@ -16,15 +16,15 @@ use Rattle.machine.specs.declared.Check.the-variants.{Passed, Refused}
 use Rattle.machine.specs.Machine.{Machine}
 use Rattle.machine.specs.Refusals.{refuse, machineCheck}
 use Rattle.machine.proofs.Checks.{sound, size-same, else-passed, not-refused}
-use Rattle.jobs.specs.declared.Held.{Held}
-use Rattle.jobs.specs.declared.Held.the-variants.{Nothing, Holds}
+use Rattle.plans.specs.declared.Held.{Held}
+use Rattle.plans.specs.declared.Held.the-variants.{Nothing, Holds}
 use Rattle.jobs.specs.Runs.{State}
 use Rattle.image.specs.declared.Wrote.the-variants as wrote
-use Rattle.image.specs.Format.{bytes, items, section, jobBytes, heldJobs, imageOf}
+use Rattle.layout.specs.Format.{bytes, items, section, jobBytes, heldJobs, imageOf}
 use Rattle.image.specs.Calls.{badJob, writeCheck, writeOf, written}
-use Rattle.image.specs.Parts.{machineBytes}
-use Rattle.image.proofs.Bytes.{length-bytes, length-items, length-job}
-use Rattle.image.proofs.Storing.{sets-append}
+use Rattle.parts.specs.Parts.{machineBytes}
+use Rattle.layout.proofs.Bytes.{length-bytes, length-items, length-job}
+use Rattle.parts.proofs.Storing.{sets-append}
 
 -- ---- how long an image is
 

@@ -13,18 +13,18 @@ use Rattle.machine.specs.declared.Check.the-variants as check
 use Rattle.machine.specs.declared.Refusal.the-variants.{Unfit, Malformed, NoRoom}
 use Rattle.machine.specs.Machine.{Machine}
 use Rattle.machine.specs.Refusals.{_else_, refuse, machineCheck}
-use Rattle.jobs.specs.declared.Held.{Held}
-use Rattle.jobs.specs.declared.Held.the-variants.{Nothing, Holds}
-use Rattle.jobs.specs.Places.{badHeld}
+use Rattle.plans.specs.declared.Held.{Held}
+use Rattle.plans.specs.declared.Held.the-variants.{Nothing, Holds}
+use Rattle.plans.specs.Places.{badHeld}
 use Rattle.jobs.specs.Runs.{State}
 use Rattle.image.specs.declared.Wrote.{Wrote}
 use Rattle.image.specs.declared.Wrote.the-variants as wrote
 use Rattle.image.specs.declared.Read.{Read}
 use Rattle.image.specs.declared.Read.the-variants as read
-use Rattle.image.specs.declared.Scanned.{Scanned}
-use Rattle.image.specs.declared.Scanned.the-variants.{Sound, Broken}
-use Rattle.image.specs.Format.{imageOf}
-use Rattle.image.specs.Reading.{wordsIn, scanned, stateIn}
+use Rattle.layout.specs.declared.Scanned.{Scanned}
+use Rattle.layout.specs.declared.Scanned.the-variants.{Sound, Broken}
+use Rattle.layout.specs.Format.{imageOf}
+use Rattle.layout.specs.Reading.{wordsIn, scanned, stateIn}
 
 -- ---- writing
 

@@ -1,5 +1,2 @@
--- document 01 on the image
-pub mod Format
-pub mod Reading
+-- document 01 on writing and reading an image
 pub mod Calls
-pub mod Parts

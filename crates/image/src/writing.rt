@@ -1,17 +1,17 @@
 // Writing: "checked .. for 1 to 3, 8 and 10"; it changes "only the image's own bytes".
 // Document 01, 'The image' and 'Numbers given when a call is turned down'.
 use crate::Wrote;
-use crate::stores;
-use jobs::Held;
 use machine::Check;
 use machine::Refusal;
 use machine::Response;
+use parts::stores;
+use plans::Held;
 ghost use mathlib.Core.Path.{_≡_};
 ghost use Prim.Native.Nat.{_+_, _*_, _≤_};
 ghost use lib.ListN.{length};
-ghost use Rattle.image.specs.Format.{heldJobs};
+ghost use Rattle.layout.specs.Format.{heldJobs};
 ghost use Rattle.image.specs.Calls.{badJob, writeCheck, writeOf, written};
-ghost use Rattle.image.specs.Parts.{state};
+ghost use Rattle.parts.specs.Parts.{state};
 
 // 8: the held job as after its start; none is fine.
 fn bad_job(width: u32, held: Held) -> bool
@@ -19,7 +19,7 @@ fn bad_job(width: u32, held: Held) -> bool
 {
     match held {
         Held::Nothing => false,
-        Held::Holds(o) => jobs::bad_held(width, o),
+        Held::Holds(o) => places::bad_held(width, o),
     }
 }
 

@@ -1,56 +1,34 @@
 -- What a step answers and leaves, from what its callees ensure.
 -- Assumes nothing.
-use Prim.Native.Nat.{ℕ, _≤_, _<_}
+use Prim.Native.Nat.{ℕ}
 use mathlib.Core.Path.{_≡_, refl, sym, ap, ap₂, _∙_}
-use mathlib.Core.Bool.{false}
 use mathlib.Core.List.{List}
 use native.Mathlib.Omega.{arith}
 use Rattle.machine.specs.declared.Answer.{Answer}
 use Rattle.machine.specs.declared.Answer.the-variants as answer
 use Rattle.machine.specs.declared.Refusal.{Refusal}
-use Rattle.machine.specs.declared.Refusal.the-variants.{Unfit}
 use Rattle.machine.specs.declared.Check.the-variants.{Passed, Refused}
 use Rattle.machine.specs.Machine.{Machine}
 use Rattle.machine.specs.Pulse.{countOf, readOf, pulsed}
-use Rattle.machine.specs.Refusals.{refuse, machineCheck, pulseCheck, answerOf, after}
-use Rattle.machine.proofs.Checks.{else-passed, not-refused, sound, width-le}
-use Rattle.jobs.specs.declared.Job.{Job}
-use Rattle.jobs.specs.declared.Held.{Held}
-use Rattle.jobs.specs.declared.Held.the-variants.{Nothing, Holds}
-use Rattle.jobs.specs.declared.Command.{Command}
+use Rattle.machine.specs.Refusals.{pulseCheck, answerOf, after}
+use Rattle.plans.specs.declared.Job.{Job}
+use Rattle.plans.specs.declared.Held.{Held}
+use Rattle.plans.specs.declared.Held.the-variants.{Holds}
+use Rattle.plans.specs.declared.Command.{Command}
 use Rattle.jobs.specs.declared.Started.the-variants as started
 use Rattle.jobs.specs.declared.Stepped.{Stepped}
 use Rattle.jobs.specs.declared.Stepped.the-variants as stepped
-use Rattle.jobs.specs.Places.{badHeld, first, next}
-use Rattle.jobs.specs.Commands.{command}
-use Rattle.jobs.specs.Calls.{startCheck, startOf, badStep, stepCheck, gave, stepOf, afterStep}
-use Rattle.jobs.proofs.Fair.{room}
+use Rattle.plans.specs.Places.{stepCheck, first, next}
+use Rattle.plans.specs.Commands.{command}
+use Rattle.jobs.specs.Calls.{startCheck, startOf, gave, stepOf, afterStep}
+use Rattle.plans.proofs.Standing.{good, fair-held}
 use Rattle.jobs.proofs.Taken.{passes}
 
 -- ---- a step that is not turned down
 
-pub record Good (m : Machine) (h : Held) : Type 0 where
-  pub machine : machineCheck m ≡ Passed
-  pub held : badStep (m .width) h ≡ false
-
-pub good : (m : Machine) (h : Held) → stepCheck m h ≡ Passed → Good m h
-unfolding stepCheck
-good m h e =
-    let a = else-passed (machineCheck m) (refuse Unfit (badStep (m .width) h)) e in
-    record { machine = a .0; held = not-refused Unfit _ (a .1) }
-
 module _ (m : Machine) (o : Job) (ok : stepCheck m (Holds o) ≡ Passed) where
-  pub narrow : m .width ≤ 64
-  narrow = width-le (m .width) (sound m (good m (Holds o) ok .machine) .width)
-
-  pub fair-held : badHeld (m .width) o ≡ false
-  fair-held = good m (Holds o) ok .held
-
-  pub few : (o .i < 64) × (o .j < 64)
-  few = let r = room (m .width) o fair-held in (omega (arith, narrow, r .i), omega (arith, narrow, r .j))
-
   pulse-passes : pulseCheck m (command o .panel) (command o .lines) ≡ Passed
-  pulse-passes = passes m o (good m (Holds o) ok .machine) fair-held
+  pulse-passes = passes m o (good m (Holds o) ok .machine) (fair-held m o ok)
 
   answered : answerOf m (command o .panel) (command o .lines) ≡ answer.Done (countOf m (command o .panel) (command o .lines)) (readOf m (command o .panel) (command o .lines))
   unfolding answerOf
@@ -90,10 +68,6 @@ module _ (m : Machine) (h : Held) where
       → (stepped.Refused r ≡ stepOf m h) × ((m .words ≡ afterStep m h .words) × (m .responses ≡ afterStep m h .responses))
   unfolding stepOf afterStep
   step-refused r e = rw e (refl, (refl, refl))
-
-  pub step-none : stepCheck m h ≡ Passed → h ≡ Nothing → ⊥
-  step-none e d =
-      let b = good m h e .held in let c = ap (badStep (m .width)) (sym d) in let z : _≡_ {A = ℕ} 0 1 = cc in omega arith
 
   pub step-gave : (o : Job) (s : Stepped) (ws rs : List ℕ) → stepCheck m h ≡ Passed → h ≡ Holds o → s ≡ gave m (Holds o)
       → ws ≡ pulsed m (command o .panel) (command o .lines) .words → rs ≡ pulsed m (command o .panel) (command o .lines) .responses

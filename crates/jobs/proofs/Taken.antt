@@ -19,13 +19,13 @@ use Rattle.machine.specs.declared.Check.the-variants.{Passed}
 use Rattle.machine.specs.Machine.{Machine, Syllable, syllables}
 use Rattle.machine.specs.Search.{code, orExact, oneCode, codeAt}
 use Rattle.machine.specs.Refusals.{tooWide, badPanel, badCodes, badLines, badAddress, machineCheck, pulseCheck}
-use Rattle.jobs.specs.declared.Span.{Span}
-use Rattle.jobs.specs.declared.Job.{Job}
-use Rattle.jobs.specs.declared.Command.{Command}
-use Rattle.jobs.specs.Fields.{Kind, greatest, smallest, scaledAdd, product, unknown, kindOf}
-use Rattle.jobs.specs.Places.{badHeld}
-use Rattle.jobs.specs.Commands.{look, plus, trial, second, bitOf, command}
-use Rattle.jobs.proofs.Fair.{Fair, fair, room-for, scaled-sum, product-sum}
+use Rattle.plans.specs.declared.Span.{Span}
+use Rattle.plans.specs.declared.Job.{Job}
+use Rattle.plans.specs.declared.Command.{Command}
+use Rattle.plans.specs.Fields.{Kind, greatest, smallest, scaledAdd, product, unknown, kindOf}
+use Rattle.plans.specs.Places.{badHeld}
+use Rattle.plans.specs.Commands.{look, plus, trial, second, bitOf, command}
+use Rattle.plans.proofs.Fair.{Fair, fair, room-for, scaled-sum, product-sum}
 
 -- nothing of 4 to 7
 pub record Taken (n : ℕ) (k : Command) : Type 0 where

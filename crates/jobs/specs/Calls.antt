@@ -1,29 +1,27 @@
--- Document 01, 'Jobs': what start, step and total answer, and the machine after a step.
+-- Document 01, 'Jobs': what start and step answer, and the machine after a step.
 -- "job start, job step and show for 1 to 3 and 8"
 -- Assumes nothing.
-use Prim.Native.Nat.{ℕ, zero, suc, _+_, _*_, _-_, _/_, _%_, _^_, min, max}
-use mathlib.Core.Bool.{Bool, true, false, not, _&&_, _||_}
-use mathlib.Core.List.{List, [], _∷_}
-use lib.Dec.{eqb, ltb}
-use Rattle.laws.specs.Bits.{bit, number, pick}
+use Prim.Native.Nat.{ℕ}
+use mathlib.Core.Bool.{Bool, true, false, _||_}
 use Rattle.machine.specs.declared.Check.{Check}
 use Rattle.machine.specs.declared.Check.the-variants as check
 use Rattle.machine.specs.declared.Refusal.the-variants.{Unfit}
-use Rattle.machine.specs.Machine.{Machine, selected}
+use Rattle.machine.specs.Machine.{Machine}
 use Rattle.machine.specs.Pulse.{countOf, pulsed}
 use Rattle.machine.specs.Refusals.{_else_, refuse, machineCheck}
-use Rattle.jobs.specs.declared.Span.{Span}
-use Rattle.jobs.specs.declared.Job.{Job}
-use Rattle.jobs.specs.declared.Held.{Held}
-use Rattle.jobs.specs.declared.Held.the-variants.{Nothing, Holds}
-use Rattle.jobs.specs.declared.Command.{Command}
+use Rattle.plans.specs.declared.Job.{Job}
+use Rattle.plans.specs.declared.Held.{Held}
+use Rattle.plans.specs.declared.Held.the-variants.{Nothing, Holds}
+use Rattle.plans.specs.declared.Command.{Command}
 use Rattle.jobs.specs.declared.Started.{Started}
 use Rattle.jobs.specs.declared.Started.the-variants as started
 use Rattle.jobs.specs.declared.Stepped.{Stepped}
 use Rattle.jobs.specs.declared.Stepped.the-variants as stepped
-use Rattle.jobs.specs.Fields.{Kind, greatest, smallest, scaledAdd, product, unknown, kindOf, badUsed}
-use Rattle.jobs.specs.Places.{badHeld, first, next}
-use Rattle.jobs.specs.Commands.{command}
+use Rattle.plans.specs.Fields.{badUsed}
+use Rattle.plans.specs.Places.{first, next}
+pub use Rattle.plans.specs.Places.{badStep}
+unfoldable pub use Rattle.plans.specs.Places.{stepCheck}
+use Rattle.plans.specs.Commands.{command}
 
 -- ---- start
 
@@ -43,14 +41,6 @@ unfoldable pub startOf : Machine → Held → Job → Started
 startOf m h o = startedBy (startCheck m h o) (first o)
 
 -- ---- step
-
--- "a step while none is"
-abbrev pub badStep : ℕ → Held → Bool
-badStep n Nothing = true
-badStep n (Holds o) = badHeld n o
-
-unfoldable pub stepCheck : Machine → Held → Check
-stepCheck m h = machineCheck m else refuse Unfit (badStep (m .width) h)
 
 -- "A job step answers the command it gave", the count and the job held afterwards
 abbrev pub gave : Machine → Held → Stepped

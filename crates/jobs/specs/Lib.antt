@@ -1,7 +1,3 @@
--- document 01 on jobs
-pub mod Fields
-pub mod Places
-pub mod Commands
+-- document 01 on the calls start and step
 pub mod Calls
-pub mod Totals
 pub mod Runs

@@ -1,17 +1,18 @@
 // Document 01, 'Jobs': the command at each place of a job. "Registers not mentioned are 0 in its commands."
-use crate::Command;
-use crate::Job;
-use crate::Span;
 use machine::Lines;
 use machine::Panel;
 use machine::Response;
 use machine::WordSlice;
+use plans::Command;
+use plans::Job;
+use plans::Span;
+use plans::low_bits;
 ghost use mathlib.Core.Path.{_≡_};
 ghost use mathlib.Core.Bool.{false};
 ghost use Prim.Native.Nat.{_+_, _-_, _*_, _%_, _^_, _≤_, _<_};
-ghost use Rattle.jobs.specs.Fields.{kindOf};
-ghost use Rattle.jobs.specs.Places.{badHeld};
-ghost use Rattle.jobs.specs.Commands as commands;
+ghost use Rattle.plans.specs.Fields.{kindOf};
+ghost use Rattle.plans.specs.Places.{badHeld};
+ghost use Rattle.plans.specs.Commands as commands;
 
 // ---- registers
 
@@ -29,14 +30,6 @@ pub(crate) fn bit_of(s: Span, i: u8) -> u64
     ensures { λ r. ⌜ r ≡ commands.bitOf s i ⌝ }
 {
     1u64 << (s.low.0 + i)
-}
-
-// The k lowest bits.
-pub(crate) fn low_bits(k: u8) -> u64
-    requires { ⌜ (0 < k) × (k ≤ 64) ⌝ }
-    ensures { λ r. ⌜ r ≡ 2 ^ k - 1 ⌝ }
-{
-    u64::MAX >> (64 - k)
 }
 
 // "c·2^i mod 2^p"

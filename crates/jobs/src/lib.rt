@@ -1,61 +1,31 @@
-// Jobs: what a job is, when it is turned down, its commands and its places, and the calls start, step and total.
-// Document 01: 'Jobs', 'The image' (phase, i and j) and number 8.
+// Jobs: the calls start and step, and the command that a step gives. What a job is stands in `plans`, its places in
+// `places` and its number of pulses in `tally`; their names are passed on here.
+// Document 01: 'Jobs' and number 8.
 mod commands;
-mod fields;
-mod places;
 pub mod totals;
 
 use machine::Answer;
-use machine::BitSlice;
 use machine::Check;
-use machine::Lines;
-use machine::Panel;
 use machine::Refusal;
 use machine::Response;
+pub use places::bad_held;
+use places::check_step;
+use places::first_of;
+use places::next_of;
+pub use plans::Command;
+pub use plans::Held;
+pub use plans::Job;
+pub use plans::Span;
+use plans::fields::bad_used;
+pub use tally::Total;
 ghost use mathlib.Core.Path.{_≡_};
 ghost use mathlib.Core.Bool.{_||_};
 ghost use Rattle.machine.specs.declared.Check.the-variants as check;
 ghost use Rattle.machine.specs.Machine.{machine};
 ghost use Rattle.machine.specs.Pulse.{pulsed};
-ghost use Rattle.jobs.specs.Fields.{badUsed};
-ghost use Rattle.jobs.specs.Places.{badHeld};
-ghost use Rattle.jobs.specs.Commands.{command};
-ghost use Rattle.jobs.specs.Calls.{isHeld, startCheck, startOf, badStep, stepCheck, gave, stepOf, afterStep};
-
-// "A syllable here is a lowest bit and a width."
-pub struct Span {
-    pub low: BitSlice,
-    pub width: u8,
-}
-
-// The fields of the image's record, in its order: "kind (1 to 4 as in the table), key, care, X, Y, lowest bit and width
-// of A, B, P, phase, i, j, then c".
-pub struct Job {
-    pub kind: u8,
-    pub key: Response,
-    pub care: Response,
-    pub x: u8,
-    pub y: u8,
-    pub a: Span,
-    pub b: Span,
-    pub p: Span,
-    pub phase: u8,
-    pub i: u8,
-    pub j: u8,
-    pub c: u64,
-}
-
-// The held job: none, or one.
-pub enum Held {
-    Nothing,
-    Holds(Job),
-}
-
-// What a step gives: a panel and one line.
-pub struct Command {
-    pub panel: Panel,
-    pub lines: Lines,
-}
+ghost use Rattle.plans.specs.Fields.{badUsed};
+ghost use Rattle.plans.specs.Commands.{command};
+ghost use Rattle.jobs.specs.Calls.{isHeld, startCheck, startOf, stepCheck, gave, stepOf, afterStep};
 
 // What a start answers.
 pub enum Started {
@@ -73,21 +43,6 @@ pub enum Stepped {
     Refused(Refusal),
 }
 
-// What total answers.
-pub enum Total {
-    Pulses(u64),
-    Refused(Refusal),
-}
-
-// ---- number 8 of a held job
-
-// "after the start": used fields as at the start, the others 0, a place of the table.
-pub fn bad_held(width: u32, o: Job) -> bool
-    ensures { λ r. ⌜ r ≡ badHeld width o ⌝ }
-{
-    fields::bad_used(width, o) | !fields::unused_zero(o) | !places::in_table(o)
-}
-
 // ---- start: "Starting a job sets its first place, and its unused fields to 0."
 
 // "a start while a job is held"; otherwise the used fields of the job offered.
@@ -95,7 +50,7 @@ fn bad_start(width: u32, held: Held, offered: Job) -> bool
     ensures { λ r. ⌜ r ≡ (isHeld held || badUsed width offered) ⌝ }
 {
     match held {
-        Held::Nothing => fields::bad_used(width, offered),
+        Held::Nothing => bad_used(width, offered),
         Held::Holds(_) => true,
     }
 }
@@ -119,33 +74,10 @@ pub fn start(words: &[u64], responses: &[Response], width: u32, held: Held, offe
     if let Check::Refused(why) = check_start(words, responses, width, held, offered) {
         return Started::Refused(why);
     }
-    Started::Holds(places::first_of(offered))
+    Started::Holds(first_of(offered))
 }
 
 // ---- step: "A job step answers the command it gave, and the machine after it is that command's pulse."
-
-// "a step while none is"; otherwise the held job.
-fn bad_step(width: u32, held: Held) -> bool
-    ensures { λ r. ⌜ r ≡ badStep width held ⌝ }
-{
-    match held {
-        Held::Nothing => true,
-        Held::Holds(o) => bad_held(width, o),
-    }
-}
-
-pub(crate) fn check_step(words: &[u64], responses: &[Response], width: u32, held: Held) -> Check
-    ensures { λ r. ⌜ r ≡ stepCheck (machine width (now (words .entry)) (now (responses .entry))) held ⌝ }
-{
-    let first = machine::check_machine(words, responses, width);
-    if let Check::Refused(why) = first {
-        return Check::Refused(why);
-    }
-    if bad_step(width, held) {
-        return Check::Refused(Refusal::Unfit);
-    }
-    Check::Passed
-}
 
 // The pulse of a job's command, on a machine and a job that are not turned down; so the pulse is not either.
 fn give(words: &mut [u64], responses: &mut [Response], width: u32, o: Job) -> Stepped
@@ -160,7 +92,7 @@ fn give(words: &mut [u64], responses: &mut [Response], width: u32, o: Job) -> St
         Answer::Done { count, read: _ } => Stepped::Gave {
             command,
             count,
-            held: places::next_of(o, count),
+            held: next_of(o, count),
         },
         Answer::Refused(why) => Stepped::Refused(why),
     }

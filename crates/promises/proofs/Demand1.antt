@@ -23,16 +23,16 @@ use Rattle.machine.specs.Machine.{Machine}
 use Rattle.machine.specs.Pulse.{countOf, readOf, pulsed}
 use Rattle.machine.specs.Resolution.{lowest}
 use Rattle.machine.specs.Refusals.{badSize, badWidth, tooWide, badPanel, badCodes, badLines, badAddress, _else_, refuse, refuseWord, machineCheck, pulseCheck, answerBy, changeBy, answerOf, after, numberOf, told}
-use Rattle.jobs.specs.declared.Job.{Job}
-use Rattle.jobs.specs.declared.Held.{Held}
-use Rattle.jobs.specs.Fields.{badUsed}
+use Rattle.plans.specs.declared.Job.{Job}
+use Rattle.plans.specs.declared.Held.{Held}
+use Rattle.plans.specs.Fields.{badUsed}
 use Rattle.jobs.specs.Calls.{isHeld, startCheck, badStep, stepCheck}
-use Rattle.jobs.specs.Totals.{badTotal, totalCheck}
+use Rattle.tally.specs.Totals.{badTotal, totalCheck}
 use Rattle.jobs.specs.Runs.{State}
-use Rattle.image.specs.declared.Scanned.{Scanned}
-use Rattle.image.specs.declared.Scanned.the-variants.{Sound, Broken}
-use Rattle.image.specs.Format.{imageOf}
-use Rattle.image.specs.Reading.{wordsIn, scanned}
+use Rattle.layout.specs.declared.Scanned.{Scanned}
+use Rattle.layout.specs.declared.Scanned.the-variants.{Sound, Broken}
+use Rattle.layout.specs.Format.{imageOf}
+use Rattle.layout.specs.Reading.{wordsIn, scanned}
 use Rattle.image.specs.Calls.{badJob, writeCheck, refuseBytes, readCheck}
 use Rattle.rounds.specs.declared.Verdict.{Verdict}
 use Rattle.rounds.specs.Round.{noBit, badBits, otherThan, shown, bitsCheck, showCheck, answerCheck, answeredAt, afterAnswer}

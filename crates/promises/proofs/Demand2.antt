@@ -32,10 +32,10 @@ use Rattle.machine.specs.Refusals.{pulseCheck, after}
 use Rattle.machine.proofs.Checks as checks
 use Rattle.machine.proofs.Statuses.{cells-match}
 use Rattle.jobs.specs.Runs.{State}
-use Rattle.image.specs.declared.Scanned.the-variants.{Sound, Broken}
-use Rattle.image.specs.Format.{imageOf}
-use Rattle.image.specs.Reading.{scanned, fieldsOf, stateIn}
-use Rattle.image.proofs.Bytes.{AreBytes}
+use Rattle.layout.specs.declared.Scanned.the-variants.{Sound, Broken}
+use Rattle.layout.specs.Format.{imageOf}
+use Rattle.layout.specs.Reading.{scanned, fieldsOf, stateIn}
+use Rattle.layout.proofs.Bytes.{AreBytes}
 use Rattle.image.proofs.RoundTrip.{Stored, roundTrip, injective}
 use Rattle.image.proofs.Unique.{one-image, stored-again}
 use Rattle.image.proofs.Cuts.{startOf, within, image-cut-off}

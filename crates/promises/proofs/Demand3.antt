@@ -17,16 +17,16 @@ use Rattle.machine.specs.declared.Check.the-variants.{Passed}
 use Rattle.machine.specs.Machine.{Machine, responseBits}
 use Rattle.machine.specs.Refusals.{pulseCheck, after}
 use Rattle.resolver.specs.declared.Resolved.the-variants as resolved
-use Rattle.jobs.specs.declared.Job.{Job}
-use Rattle.jobs.specs.declared.Held.{Held}
-use Rattle.jobs.specs.declared.Held.the-variants.{Nothing, Holds}
-use Rattle.jobs.specs.declared.Command.{Command}
+use Rattle.plans.specs.declared.Job.{Job}
+use Rattle.plans.specs.declared.Held.{Held}
+use Rattle.plans.specs.declared.Held.the-variants.{Nothing, Holds}
+use Rattle.plans.specs.declared.Command.{Command}
 use Rattle.jobs.specs.declared.Stepped.the-variants as answer
 use Rattle.jobs.specs.Calls.{stepOf, afterStep}
-use Rattle.jobs.specs.declared.Total.the-variants as total
-use Rattle.jobs.specs.Fields.{Kind, greatest, smallest, scaledAdd, product, unknown, kindOf}
-use Rattle.jobs.specs.Places.{first, firstFor}
-use Rattle.jobs.specs.Totals.{sumBelow, ones, zeros, valueOf, values, greatestOf, smallestOf, pulses, atFirst, totalCheck, totalOf}
+use Rattle.tally.specs.declared.Total.the-variants as total
+use Rattle.plans.specs.Fields.{Kind, greatest, smallest, scaledAdd, product, unknown, kindOf}
+use Rattle.plans.specs.Places.{first, firstFor, atFirst}
+use Rattle.tally.specs.Totals.{sumBelow, ones, zeros, valueOf, values, greatestOf, smallestOf, pulses, totalCheck, totalOf}
 use Rattle.jobs.specs.Runs.{State, stepped, steps}
 use Rattle.ends.specs.Ends.{Accepted, begun, Gives, ended, Adds, Marks}
 use Rattle.ends.proofs.Steps.{given-passed}
@@ -42,7 +42,7 @@ use Rattle.rounds.specs.Round.{badBits, bitsCheck, shown, showOf, replyOf}
 use Rattle.rounds.specs.Handout.{responders, responder, response, NotAmong, firstOf, Answers}
 use Rattle.rounds.proofs.Passing.{Fit}
 use Rattle.rounds.proofs.Handout.{handed-out}
-use Rattle.image.specs.Format.{imageOf}
+use Rattle.layout.specs.Format.{imageOf}
 use Rattle.hosts.specs.Images.{Stores, Resumes}
 use Rattle.hosts.specs.Stops.{Kept, In, Worked}
 use Rattle.hosts.specs.Rounds.{Responder, lower, Leaves, Apart, Phase, ready, showing, Entry, Hosted, Orderly, Shown}

@@ -14,15 +14,15 @@ use Rattle.machine.specs.Search.{oneCode, satisfied, matches, marked}
 use Rattle.machine.specs.Pulse.{written, sums, added, wordAfter, flipped, responseAfter, counts, countOf, readOf, pulsed}
 use Rattle.machine.specs.Resolution.{lowest}
 use Rattle.machine.specs.Refusals.{badSize, badWidth, badPanel, badCodes, badLines, badAddress, machineCheck, pulseCheck, answerOf, after, Told, told}
-use Rattle.jobs.specs.declared.Span.{Span}
-use Rattle.jobs.specs.declared.Job.{Job}
-use Rattle.jobs.specs.declared.Held.{Held}
-use Rattle.jobs.specs.declared.Held.the-variants.{Nothing, Holds}
+use Rattle.plans.specs.declared.Span.{Span}
+use Rattle.plans.specs.declared.Job.{Job}
+use Rattle.plans.specs.declared.Held.{Held}
+use Rattle.plans.specs.declared.Held.the-variants.{Nothing, Holds}
 use Rattle.jobs.specs.declared.Started.{Started}
 use Rattle.jobs.specs.declared.Started.the-variants as started
-use Rattle.jobs.specs.Fields.{badExtreme, badScaledAdd, badProduct, badUsed, unusedZero}
-use Rattle.jobs.specs.Places.{inTable, badHeld, first, next}
-use Rattle.jobs.specs.Commands.{command}
+use Rattle.plans.specs.Fields.{badExtreme, badScaledAdd, badProduct, badUsed, unusedZero}
+use Rattle.plans.specs.Places.{inTable, badHeld, first, next}
+use Rattle.plans.specs.Commands.{command}
 use Rattle.jobs.specs.Calls.{startCheck, startOf, stepCheck, stepOf, afterStep}
 use Rattle.jobs.specs.Runs.{State, stepped, steps, stepsTaken}
 

@@ -35,9 +35,9 @@ use Rattle.jobs.proofs.start.Reads as start-reads
 use Rattle.jobs.proofs.step as step
 use Rattle.jobs.proofs.step.Kinds as step-kinds
 use Rattle.jobs.proofs.step.Reads as step-reads
-use Rattle.jobs.proofs.totals.total as total
-use Rattle.jobs.proofs.totals.total.Kinds as total-kinds
-use Rattle.jobs.proofs.totals.total.Reads as total-reads
+use Rattle.tally.proofs.totals.total as total
+use Rattle.tally.proofs.totals.total.Kinds as total-kinds
+use Rattle.tally.proofs.totals.total.Reads as total-reads
 use Rattle.image.proofs.writing.write as write
 use Rattle.image.proofs.writing.write.Kinds as write-kinds
 use Rattle.image.proofs.writing.write.Reads as write-reads

@@ -1,5 +1,5 @@
 use mathlib.Core.Path.{_∙_}
-use Rattle.cells.proofs.Words as words
+use Rattle.chains.proofs.Words as words
 use borrow.Author.Needs.{needs}
 use Rattle.cells.proofs.flip.Statement.{statement}
 use Rattle.cells.proofs.flip.Tie as tie

@@ -1,6 +1,6 @@
 use mathlib.Core.Logic.{⊎-elim}
 use mathlib.Core.Path.{refl, _∙_}
-use Rattle.cells.proofs.Words as words
+use Rattle.chains.proofs.Words as words
 use borrow.Author.Needs.{needs}
 use Rattle.cells.proofs.mark.Statement.{statement}
 use Rattle.cells.proofs.mark.Tie as tie

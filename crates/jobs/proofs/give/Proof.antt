@@ -1,4 +1,5 @@
 use Rattle.machine.specs.Machine.{machine}
+use Rattle.plans.proofs.Standing as standing
 use Rattle.jobs.proofs.Giving as giving
 use borrow.Author.Needs.{needs}
 use Rattle.jobs.proofs.give.Statement.{statement}
@@ -9,7 +10,7 @@ command-of-requires c κs =
     let t = c .before .before in
     let a = t .args in
     let m = machine (a .width) (a .words .now) (a .responses .now) in
-    (giving.narrow m (a .o) (t .pre), giving.fair-held m (a .o) (t .pre))
+    (standing.narrow m (a .o) (t .pre), standing.fair-held m (a .o) (t .pre))
 
 pulse-requires : tie.Need-pulse-requires
 pulse-requires c κs = search needs
@@ -22,7 +23,7 @@ next-of-requires c κs =
     let t = c .before .before .before .before .before .before .before .before .before .before .before .before .before in
     let a = t .args in
     let m = machine (a .width) (a .words .now) (a .responses .now) in
-    giving.few m (a .o) (t .pre)
+    standing.few m (a .o) (t .pre)
 
 enum-known-answer-2 : tie.Need-enum-known-answer-2
 enum-known-answer-2 c = search needs

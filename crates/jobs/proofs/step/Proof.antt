@@ -1,6 +1,7 @@
-use Rattle.jobs.specs.Calls.{stepCheck}
+use Rattle.plans.specs.Places.{stepCheck}
 use mathlib.Core.Path.{sym, ap, _∙_}
 use Rattle.machine.specs.Machine.{machine}
+use Rattle.plans.proofs.Standing as standing
 use Rattle.jobs.proofs.Giving as giving
 use borrow.Author.Needs.{needs}
 use Rattle.jobs.proofs.step.Statement.{statement}
@@ -51,7 +52,7 @@ returns-2 c =
     let t = c .before .before .before .before .before .before .before .before .before in
     let a = t .args in
     let m = machine (a .width) (a .words .now) (a .responses .now) in
-    absurd (giving.step-none m (a .held) (sym (c .before .before .before .before .check-step .ensures) ∙ c .before .before .enum-told .given .1) (c .enum-told2 .given .1))
+    absurd (standing.step-none m (a .held) (sym (c .before .before .before .before .check-step .ensures) ∙ c .before .before .enum-told .given .1) (c .enum-told2 .given .1))
 
 same-length-5 : tie.Need-same-length-5
 same-length-5 c = search needs

@@ -1,7 +1,7 @@
 use mathlib.Core.Path.{_∙_}
-use Rattle.jobs.specs.Commands.{look, trial, second}
-use Rattle.jobs.proofs.Fair.{room}
-use Rattle.jobs.proofs.Moves as moves
+use Rattle.plans.specs.Commands.{look, trial, second}
+use Rattle.plans.proofs.Fair.{room}
+use Rattle.jobs.proofs.Phases as phases
 use borrow.Author.Needs.{needs}
 use Rattle.jobs.proofs.commands.command_of.Statement.{statement}
 use Rattle.jobs.proofs.commands.command_of.Tie as tie
@@ -16,14 +16,14 @@ second-requires : tie.Need-second-requires
 second-requires c κs = search needs
 
 returns : tie.Need-returns
-returns c = c .look .ensures ∙ moves.at-opening (c .before .before .args .o) (c .before .match .keys1)
+returns c = c .look .ensures ∙ phases.at-opening (c .before .before .args .o) (c .before .match .keys1)
 
 returns-2 : tie.Need-returns-2
-returns-2 c = c .trial .ensures ∙ moves.at-trial (c .before .before .args .o) (c .before .match .keys2)
+returns-2 c = c .trial .ensures ∙ phases.at-trial (c .before .before .args .o) (c .before .match .keys2)
 
 returns-3 : tie.Need-returns-3
 returns-3 c =
-    c .second .ensures ∙ moves.at-second (c .before .before .args .o) (c .before .match .rest .0 .1) (c .before .match .rest .1)
+    c .second .ensures ∙ phases.at-second (c .before .before .args .o) (c .before .match .rest .0 .1) (c .before .match .rest .1)
 
 pub command-of-spec : {M : Type 1} → statement M
 command-of-spec =

@@ -1,4 +1,4 @@
-use Rattle.jobs.proofs.Moves as moves
+use Rattle.jobs.proofs.Phases as phases
 use borrow.Author.Needs.{needs}
 use Rattle.jobs.proofs.commands.plus.Statement.{statement}
 use Rattle.jobs.proofs.commands.plus.Tie as tie
@@ -36,7 +36,7 @@ shl-t12 c = search needs
 returns : tie.Need-returns
 returns c =
     let t = c .before .before .before in
-    moves.plus-is (t .args .y) (c .before .before .response-bit .result) (c .before .low-bits .result) (t .args .v) (t .args .s) (t .pre .1 .0) (t .pre .1 .1) (t .pre .1 .2)
+    phases.plus-is (t .args .y) (c .before .before .response-bit .result) (c .before .low-bits .result) (t .args .v) (t .args .s) (t .pre .1 .0) (t .pre .1 .1) (t .pre .1 .2)
     (c .before .before .response-bit .ensures) (c .before .low-bits .ensures)
 
 pub plus-spec : {M : Type 1} → statement M

@@ -3,12 +3,12 @@ use mathlib.Core.Path.{ap, _∙_}
 use native.Mathlib.Omega.{arith}
 use native.Mathlib.Nat.{mod-lt}
 use lib.Pow.{pow-pos}
-use Rattle.jobs.specs.declared.Command.{Command}
-use Rattle.jobs.specs.Fields.{Kind}
-use Rattle.jobs.specs.Commands.{look, plus, second}
-use Rattle.jobs.proofs.ByKind.{as-kind, as-unknown}
-use Rattle.jobs.proofs.Fair.{room, fair-as, scaled-sum, product-sum}
-use Rattle.jobs.proofs.Shifts as shifts
+use Rattle.plans.specs.declared.Command.{Command}
+use Rattle.plans.specs.Fields.{Kind}
+use Rattle.plans.specs.Commands.{look, plus, second}
+use Rattle.plans.proofs.ByKind.{as-kind, as-unknown}
+use Rattle.plans.proofs.Fair.{room, fair-as, scaled-sum, product-sum}
+use Rattle.plans.proofs.Shifts as shifts
 use borrow.Author.Needs.{needs}
 use Rattle.jobs.proofs.commands.second.Statement.{statement}
 use Rattle.jobs.proofs.commands.second.Tie as tie

@@ -1,2 +1,0 @@
--- names for the steps of the plain machine's loops
-pub mod Walks

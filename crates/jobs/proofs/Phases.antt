@@ -1,0 +1,45 @@
+-- Commands by phase, as the code's `match` finds them.
+-- Assumes nothing.
+use Prim.Native.Nat.{ℕ, _+_, _-_, _*_, _%_, _^_, _≤_, _<_}
+use mathlib.Core.Path.{_≡_, _∙_}
+use native.Mathlib.Omega.{arith}
+use borrow.Author.Tests.{eq-eqb, ne-eqb}
+use lib.Pow.{shl-exact}
+use Rattle.plans.specs.declared.Span.{Span}
+use Rattle.plans.specs.declared.Job.{Job}
+use Rattle.plans.specs.Fields.{kindOf}
+use Rattle.plans.specs.Commands.{opening, trial, second, command, plus, multiaddLine}
+use Rattle.plans.proofs.ByKind.{picked, passed}
+use Rattle.plans.proofs.Shifts.{one-shifted, run}
+
+pub at-opening : (o : Job) → o .phase ≡ 0 → opening o ≡ command o
+unfolding command
+at-opening o h = picked _ _ _ (eq-eqb (o .phase) 0 h)
+
+pub at-trial : (o : Job) → o .phase ≡ 1 → trial (kindOf (o .kind)) o ≡ command o
+unfolding command
+at-trial o h = picked _ _ _ (eq-eqb (o .phase) 1 h) ∙ passed _ _ _ (ne-eqb (o .phase) 0 (λ e. omega arith))
+
+pub at-second : (o : Job) → (o .phase ≡ 0 → ⊥) → (o .phase ≡ 1 → ⊥) → second (kindOf (o .kind)) o ≡ command o
+unfolding command
+at-second o h g = passed _ _ _ (ne-eqb (o .phase) 1 g) ∙ passed _ _ _ (ne-eqb (o .phase) 0 h)
+
+-- an add's registers, shifted
+pub plus-is : (y u m v : ℕ) (s : Span) → 0 < s .width → s .low .0 + s .width ≤ 64 → v < 2 ^ s .width → u ≡ 2 ^ y → m ≡ 2 ^ s .width - 1
+    → record {
+      panel = record {
+        comp = v * 2 ^ s .low .0 % 2 ^ 64;
+        sdr = 1 * 2 ^ (s .low .0 + s .width - 1) % 2 ^ 64;
+        sc1 = 0;
+        sc2 = 0;
+        mor = m * 2 ^ s .low .0 % 2 ^ 64;
+        key = u;
+        care = u;
+        target = 0;
+        address = record { 0 = 0 };
+      };
+      lines = multiaddLine;
+    }
+    ≡ plus y s v
+plus-is y u m v s h g l e d =
+    rw (e, d, shl-exact (s .width) (s .low .0) 64 l (omega arith), one-shifted (s .low .0 + s .width - 1) 64 (omega arith), run (s .low .0) (s .width) g)

@@ -1,0 +1,2 @@
+-- laws of bytes and numbers
+pub mod Bytes

@@ -1,0 +1,3 @@
+-- laws of stores and of fields
+pub mod Storing
+pub mod Scans

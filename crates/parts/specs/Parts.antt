@@ -1,0 +1,40 @@
+-- The image's parts, as the code stores and looks at them one after the other.
+-- Assumes nothing.
+use Prim.Native.Nat.{ℕ, _+_, _*_}
+use mathlib.Core.Bool.{Bool, true, false}
+use mathlib.Core.List.{List, [], _∷_, _++_}
+use lib.Dec.{ltb}
+use lib.ListN.{length, take, drop, replicate}
+use Rattle.laws.specs.Bits.{pick}
+use Rattle.machine.specs.Machine.{Machine, machine}
+use Rattle.plans.specs.declared.Held.{Held}
+use Rattle.jobs.specs.Runs.{State}
+use Rattle.layout.specs.declared.Scanned.{Scanned}
+use Rattle.layout.specs.declared.Scanned.the-variants.{Sound, Broken}
+use Rattle.layout.specs.Format.{bytes, value, section}
+use Rattle.layout.specs.Reading.{Field, countIs, responseField, jobCount, jobField}
+
+-- of this width, with these words and responses lent, and this job held
+abbrev pub state : ℕ → List ℕ → List ℕ → Held → State
+state n ws rs h = record { machine = machine n ws rs; held = h }
+
+-- the three sections before the job
+unfoldable pub machineBytes : Machine → List ℕ
+machineBytes m = section (bytes 1) (m .width ∷ []) ++ (section (bytes 8) (m .words) ++ section (bytes 1) (m .responses))
+
+-- the first field of these bytes is whole, and right
+unfoldable pub holds : Field → List ℕ → Bool
+holds f bs = pick (ltb (length bs) (f .size)) false (f .right (take (f .size) bs))
+
+-- where nothing is wrong so far, what comes after
+abbrev pub onward : Scanned → Scanned → Scanned
+onward Sound later = later
+onward (Broken at) later = Broken at
+
+-- the fields from the job's count on, which is at this place
+abbrev pub jobFields : ℕ → ℕ → List ℕ → List Field
+jobFields n at bs = jobCount ∷ replicate (value (take 4 (drop at bs))) (jobField n)
+
+-- the fields after k words
+abbrev pub afterWords : ℕ → ℕ → List ℕ → List Field
+afterWords n k bs = countIs k ∷ (replicate k responseField ++ jobFields n (13 + 9 * k) bs)

@@ -1,0 +1,4 @@
+-- document 01 on jobs: what a job is, its places and its commands
+pub mod Fields
+pub mod Places
+pub mod Commands

@@ -1,0 +1,53 @@
+// What a job is: its types, the definitions of its fields, places and commands, and the tests of its fields.
+// Document 01: 'Jobs', 'The image' (phase, i and j) and number 8.
+pub mod fields;
+
+use machine::BitSlice;
+use machine::Lines;
+use machine::Panel;
+use machine::Response;
+ghost use mathlib.Core.Path.{_≡_};
+ghost use Prim.Native.Nat.{_-_, _^_, _≤_, _<_};
+
+// "A syllable here is a lowest bit and a width."
+pub struct Span {
+    pub low: BitSlice,
+    pub width: u8,
+}
+
+// The fields of the image's record, in its order: "kind (1 to 4 as in the table), key, care, X, Y, lowest bit and width
+// of A, B, P, phase, i, j, then c".
+pub struct Job {
+    pub kind: u8,
+    pub key: Response,
+    pub care: Response,
+    pub x: u8,
+    pub y: u8,
+    pub a: Span,
+    pub b: Span,
+    pub p: Span,
+    pub phase: u8,
+    pub i: u8,
+    pub j: u8,
+    pub c: u64,
+}
+
+// The held job: none, or one.
+pub enum Held {
+    Nothing,
+    Holds(Job),
+}
+
+// What a step gives: a panel and one line.
+pub struct Command {
+    pub panel: Panel,
+    pub lines: Lines,
+}
+
+// The k lowest bits.
+pub fn low_bits(k: u8) -> u64
+    requires { ⌜ (0 < k) × (k ≤ 64) ⌝ }
+    ensures { λ r. ⌜ r ≡ 2 ^ k - 1 ⌝ }
+{
+    u64::MAX >> (64 - k)
+}
