@@ -1,10 +1,11 @@
-// The panel lent: nine thin loads through `&mut`, one for each register, over the loads by value.
+// The panel lent: nine thin loads through `&mut`, one for each register, over the loads by value, and a load by number above them.
 // Document 01, 'The machine': "Loading one register of the panel changes that register and no other."
 ghost use mathlib.Core.Path.{_≡_};
 ghost use Rattle.laws.specs.Bits.{pick};
 ghost use Rattle.machine.specs.Panel.{registers, load};
 ghost use Rattle.panel.specs.Numbered.{takes, chosen};
 use machine::Panel;
+use machine::RESPONSE_BITS;
 use machine::Response;
 use machine::WordSlice;
 
@@ -71,6 +72,9 @@ pub fn load_address(panel: &mut Panel, value: WordSlice)
     *panel = p.load_address(value);
 }
 
+// 2 to RESPONSE_BITS: the numbers that an 8-bit register holds.
+const SPAN: u64 = 256;
+
 // ---- above them, with plain parameters: whoever calls `load` needs no proof by hand
 
 // The register of this number, of a panel of its own, which it lends. The value comes in each type that a register has.
@@ -100,7 +104,7 @@ pub fn takes(register: u8, value: u64) -> bool
     if register < 5 {
         true
     } else if register < 8 {
-        value < 256
+        !machine::too_wide(RESPONSE_BITS, value)
     } else {
         register == 8
     }
@@ -111,7 +115,7 @@ pub fn load(panel: Panel, register: u8, value: u64) -> Panel
     ensures { λ r. ⌜ registers r ≡ pick (takes register value) (load register value panel) (registers panel) ⌝ }
 {
     if takes(register, value) {
-        let narrow = (value % 256) as Response;
+        let narrow = (value % SPAN) as Response;
         load_own(panel, register, value, narrow, WordSlice(value as usize))
     } else {
         panel
