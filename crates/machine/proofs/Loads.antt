@@ -1,32 +1,34 @@
--- Loading one register of the panel changes that register and no other.
+-- Loading one register of the panel changes that register and no other, and leaves nothing of the panel open.
 -- Assumes nothing.
-use Prim.Native.Nat.{ℕ}
-use mathlib.Core.Path.{_≡_, refl}
-use borrow.Author.Tests.{ne-eqb}
+use Prim.Native.Nat.{ℕ, _<_}
+use mathlib.Core.Path.{_≡_, _∙_, ap}
+use lib.ListN.{getD}
+use lib.Seq.{getD-set-same, getD-set-other}
 use Rattle.machine.specs.declared.Panel.{Panel}
-use Rattle.machine.specs.Panel.{Register, COMP, SDR, SC1, SC2, MOR, KEY, CARE, TARGET, ADDRESS, held, place, load, loaded}
+use Rattle.machine.specs.Panel.{registers, load}
 
-pub held-loaded : (r : Register) (v : ℕ) (p : Panel) (q : Register) → held (load r v p) q ≡ loaded r v p q
-held-loaded r v p COMP = refl
-held-loaded r v p SDR = refl
-held-loaded r v p SC1 = refl
-held-loaded r v p SC2 = refl
-held-loaded r v p MOR = refl
-held-loaded r v p KEY = refl
-held-loaded r v p CARE = refl
-held-loaded r v p TARGET = refl
-held-loaded r v p ADDRESS = refl
+-- what register k holds
+abbrev pub held : Panel → ℕ → ℕ
+held p k = getD (registers p) k 0
 
-pub load-that : (r : Register) (v : ℕ) (p : Panel) → held (load r v p) r ≡ v
-load-that COMP v p = refl
-load-that SDR v p = refl
-load-that SC1 v p = refl
-load-that SC2 v p = refl
-load-that MOR v p = refl
-load-that KEY v p = refl
-load-that CARE v p = refl
-load-that TARGET v p = refl
-load-that ADDRESS v p = refl
+pub load-that : (k v : ℕ) (p q : Panel) → k < 9 → registers q ≡ load k v p → held q k ≡ v
+load-that k v p q few e = ap (λ xs. getD xs k 0) e ∙ getD-set-same (registers p) k v 0 few
 
-pub load-no-other : (r : Register) (v : ℕ) (p : Panel) (q : Register) → (place q ≡ place r → ⊥) → held (load r v p) q ≡ held p q
-load-no-other r v p q h = rw (held-loaded r v p q, ne-eqb (place q) (place r) h)
+pub load-no-other : (k v : ℕ) (p q : Panel) (j : ℕ) → (j ≡ k → ⊥) → registers q ≡ load k v p → held q j ≡ held p j
+load-no-other k v p q j other e = ap (λ xs. getD xs j 0) e ∙ getD-set-other (registers p) k j v 0 other
+
+-- the registers are all of the panel
+pub same-panel : (p q : Panel) → registers p ≡ registers q → p ≡ q
+same-panel p q e =
+    let at : (k : ℕ) → held p k ≡ held q k = λ k. ap (λ xs. getD xs k 0) e in
+    λ i. record {
+      comp = at 0 i;
+      sdr = at 1 i;
+      sc1 = at 2 i;
+      sc2 = at 3 i;
+      mor = at 4 i;
+      key = at 5 i;
+      care = at 6 i;
+      target = at 7 i;
+      address = record { 0 = at 8 i };
+    }

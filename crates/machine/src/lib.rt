@@ -3,7 +3,7 @@
 ghost use mathlib.Core.Path.{_≡_};
 ghost use Prim.Native.Nat.{_≤_};
 ghost use Rattle.laws.specs.Bits.{digit};
-ghost use Rattle.machine.specs.Panel.{load, COMP, SDR, SC1, SC2, MOR, KEY, CARE, TARGET, ADDRESS};
+ghost use Rattle.machine.specs.Panel.{registers, load};
 ghost use Rattle.machine.specs.Machine.{machine};
 ghost use Rattle.machine.specs.Resolution.{lowest};
 ghost use Rattle.machine.specs.Refusals.{badSize, badWidth, tooWide, badPanel, badLines, badAddress, refuseWord, machineCheck, commandCheck};
@@ -34,63 +34,63 @@ pub struct Panel {
 // "Loading one register of the panel changes that register and no other."
 impl Panel {
     pub fn load_comp(mut self, value: u64) -> Panel
-        ensures { λ r. ⌜ r ≡ load COMP value self ⌝ }
+        ensures { λ r. ⌜ registers r ≡ load 0 value self ⌝ }
     {
         self.comp = value;
         self
     }
 
     pub fn load_sdr(mut self, value: u64) -> Panel
-        ensures { λ r. ⌜ r ≡ load SDR value self ⌝ }
+        ensures { λ r. ⌜ registers r ≡ load 1 value self ⌝ }
     {
         self.sdr = value;
         self
     }
 
     pub fn load_sc1(mut self, value: u64) -> Panel
-        ensures { λ r. ⌜ r ≡ load SC1 value self ⌝ }
+        ensures { λ r. ⌜ registers r ≡ load 2 value self ⌝ }
     {
         self.sc1 = value;
         self
     }
 
     pub fn load_sc2(mut self, value: u64) -> Panel
-        ensures { λ r. ⌜ r ≡ load SC2 value self ⌝ }
+        ensures { λ r. ⌜ registers r ≡ load 3 value self ⌝ }
     {
         self.sc2 = value;
         self
     }
 
     pub fn load_mor(mut self, value: u64) -> Panel
-        ensures { λ r. ⌜ r ≡ load MOR value self ⌝ }
+        ensures { λ r. ⌜ registers r ≡ load 4 value self ⌝ }
     {
         self.mor = value;
         self
     }
 
     pub fn load_key(mut self, value: Response) -> Panel
-        ensures { λ r. ⌜ r ≡ load KEY value self ⌝ }
+        ensures { λ r. ⌜ registers r ≡ load 5 value self ⌝ }
     {
         self.key = value;
         self
     }
 
     pub fn load_care(mut self, value: Response) -> Panel
-        ensures { λ r. ⌜ r ≡ load CARE value self ⌝ }
+        ensures { λ r. ⌜ registers r ≡ load 6 value self ⌝ }
     {
         self.care = value;
         self
     }
 
     pub fn load_target(mut self, value: Response) -> Panel
-        ensures { λ r. ⌜ r ≡ load TARGET value self ⌝ }
+        ensures { λ r. ⌜ registers r ≡ load 7 value self ⌝ }
     {
         self.target = value;
         self
     }
 
     pub fn load_address(mut self, value: WordSlice) -> Panel
-        ensures { λ r. ⌜ r ≡ load ADDRESS (value .0) self ⌝ }
+        ensures { λ r. ⌜ registers r ≡ load 8 (value .0) self ⌝ }
     {
         self.address = value;
         self
