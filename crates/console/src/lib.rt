@@ -1,0 +1,241 @@
+// The console's commands: each line is taken apart, given to the library, and the library's answer handed back to be printed.
+// docs/BOARD.md has the language. "The console checks nothing that document 01 gives a refusal for": what it turns down itself is a
+// line that is none of its own, and such a line changes nothing.
+mod calls;
+mod host;
+mod images;
+mod working;
+
+use plans::Command;
+use plans::Held;
+use machine::Panel;
+use machine::Refusal;
+use machine::WordSlice;
+
+// The machine but for its two lent buffers, of which it says how many entries are its own.
+pub struct Board {
+    pub width: u32,
+    pub words: usize,
+    pub responses: usize,
+    pub panel: Panel,
+    pub held: Held,
+}
+
+// What is to be printed of a line.
+pub enum Outcome {
+    BadLine,
+    Fine,
+    Refused(Refusal),
+    Pulsed {
+        count: usize,
+        read: u64,
+    },
+    Word(WordSlice),
+    NoWord,
+    Registers(Panel),
+    Gave {
+        command: Command,
+        count: usize,
+        held: bool,
+    },
+    Pulses(u64),
+    // An image of so many bytes: all of it, its length alone, and what the program list prints of it.
+    Image(usize),
+    Length(usize),
+    Listing(usize),
+}
+
+// The board after a line, and what is to be printed.
+pub struct Turn {
+    pub board: Board,
+    pub outcome: Outcome,
+}
+
+// "machine N n", but for the buffers.
+pub fn fresh(width: u32, words: usize) -> Board {
+    Board {
+        width,
+        words,
+        responses: words,
+        panel: Panel {
+            comp: 0,
+            sdr: 0,
+            sc1: 0,
+            sc2: 0,
+            mor: 0,
+            key: 0,
+            care: 0,
+            target: 0,
+            address: WordSlice(0),
+        },
+        held: Held::Nothing,
+    }
+}
+
+// ---- how a command ends
+
+pub(crate) fn bad_line(board: Board) -> Turn {
+    Turn {
+        board,
+        outcome: Outcome::BadLine,
+    }
+}
+
+pub(crate) fn fine(board: Board) -> Turn {
+    Turn {
+        board,
+        outcome: Outcome::Fine,
+    }
+}
+
+pub(crate) fn refused(board: Board, why: Refusal) -> Turn {
+    Turn {
+        board,
+        outcome: Outcome::Refused(why),
+    }
+}
+
+pub(crate) fn with_held(board: Board, held: Held) -> Board {
+    let panel = board.panel;
+    Board {
+        width: board.width,
+        words: board.words,
+        responses: board.responses,
+        panel,
+        held,
+    }
+}
+
+// ---- which command it is
+
+// One line that has a word, on buffers that are as long as any machine of the console needs. `bytes` is room for an image.
+pub fn obey(
+    board: Board,
+    line: &[u8],
+    words: &mut [u64],
+    responses: &mut [u8],
+    bytes: &mut [u8],
+) -> Turn {
+    let word = text::words::next(line, 0);
+    let from = word.from;
+    let to = word.to;
+    let end = line.len();
+    by_name(
+        board,
+        &line[from..to],
+        &line[to..end],
+        words,
+        responses,
+        bytes,
+    )
+}
+
+// The commands that change how long the machine's buffers are.
+fn by_name(
+    board: Board,
+    name: &[u8],
+    rest: &[u8],
+    words: &mut [u64],
+    responses: &mut [u8],
+    bytes: &mut [u8],
+) -> Turn {
+    match text::words::which(b"machine lend resume fit", name) {
+        0 => host::make(board, rest, words, responses),
+        1 => host::lend(board, rest, responses),
+        2 => images::resume(board, rest, words, responses, bytes),
+        3 => images::fit(board, rest, words, responses, bytes),
+        _ => on_machine(board, name, rest, words, responses, bytes),
+    }
+}
+
+// The others are lent just the machine's own entries.
+fn on_machine(
+    board: Board,
+    name: &[u8],
+    rest: &[u8],
+    words: &mut [u64],
+    responses: &mut [u8],
+    bytes: &mut [u8],
+) -> Turn {
+    let n = board.words;
+    let m = board.responses;
+    if words.len() < n {
+        return bad_line(board);
+    }
+    if responses.len() < m {
+        return bad_line(board);
+    }
+    change(
+        board,
+        name,
+        rest,
+        &mut words[0..n],
+        &mut responses[0..m],
+        bytes,
+    )
+}
+
+// The commands that change the panel or the held job.
+fn change(
+    board: Board,
+    name: &[u8],
+    rest: &[u8],
+    words: &mut [u64],
+    responses: &mut [u8],
+    bytes: &mut [u8],
+) -> Turn {
+    match text::words::which(b"load job drop start step run", name) {
+        0 => host::load(board, rest),
+        1 => host::write_job(board, rest),
+        2 => host::drop_job(board, rest),
+        3 => working::start(board, rest, words, responses),
+        4 => working::step(board, rest, words, responses),
+        5 => working::run(board, rest, words, responses),
+        _ => Turn {
+            board,
+            outcome: mark(board, name, rest, words, responses, bytes),
+        },
+    }
+}
+
+// The commands that change words and responses alone.
+fn mark(
+    board: Board,
+    name: &[u8],
+    rest: &[u8],
+    words: &mut [u64],
+    responses: &mut [u8],
+    bytes: &mut [u8],
+) -> Outcome {
+    match text::words::which(b"word response pulse cells done faulty", name) {
+        0 => host::write_word(rest, words),
+        1 => host::write_response(rest, responses),
+        2 => calls::pulse(board, rest, words, responses),
+        3 => calls::cells(board, rest, words, responses),
+        4 => calls::done(board, rest, words, responses),
+        5 => calls::faulty(board, rest, words, responses),
+        _ => look(board, name, rest, words, responses, bytes),
+    }
+}
+
+// The commands that change nothing.
+fn look(
+    board: Board,
+    name: &[u8],
+    rest: &[u8],
+    words: &[u64],
+    responses: &[u8],
+    bytes: &mut [u8],
+) -> Outcome {
+    match text::words::which(b"panel resolve tree show total store list room", name) {
+        0 => host::tell_panel(board, rest),
+        1 => calls::resolve(board, rest, words, responses),
+        2 => calls::tree(board, rest, words, responses),
+        3 => calls::show(board, rest, words, responses),
+        4 => working::total(board, rest, words, responses),
+        5 => images::store(board, rest, words, responses, bytes),
+        6 => images::list(board, rest, words, responses, bytes),
+        7 => images::room(board, rest, words, responses, bytes),
+        _ => Outcome::BadLine,
+    }
+}

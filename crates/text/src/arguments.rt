@@ -1,0 +1,54 @@
+// The numbers after a command's name, read by a row of letters, one for each number that the command takes.
+use crate::Number;
+use crate::Row;
+use crate::numbers;
+use crate::words;
+
+// A letter's number: b n k a are decimal, to 255, 2048, 20000 and 2^64 - 1; h and x are hex, to FF and 16 digits.
+pub fn read_one(letter: u8, word: &[u8]) -> Number {
+    match letter {
+        b'b' => numbers::at_most(numbers::decimal(word), 255),
+        b'n' => numbers::at_most(numbers::decimal(word), 2048),
+        b'k' => numbers::at_most(numbers::decimal(word), 20000),
+        b'a' => numbers::decimal(word),
+        b'h' => numbers::at_most(numbers::hex(word), 255),
+        _ => numbers::hex(word),
+    }
+}
+
+fn keep(values: &mut [u64; 16], i: usize, x: u64) {
+    if i < 16 {
+        values[i] = x;
+    }
+}
+
+// The words of a line as the letters say: right only if there is a word for each letter and no word more.
+pub fn read(line: &[u8], letters: &[u8]) -> Row {
+    let mut values = [0u64; 16];
+    let mut at: usize = 0;
+    let mut i: usize = 0;
+    while i < letters.len() {
+        let word = words::next(line, at);
+        let from = word.from;
+        let to = word.to;
+        let found = read_one(letters[i], &line[from..to]);
+        let Number::Is(x) = found else {
+            return Row {
+                right: false,
+                values,
+            };
+        };
+        keep(&mut values, i, x);
+        at = to;
+        i += 1;
+    }
+    Row {
+        right: words::none_left(line, at),
+        values,
+    }
+}
+
+// No word at all.
+pub fn none(line: &[u8]) -> bool {
+    words::none_left(line, 0)
+}

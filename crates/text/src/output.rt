@@ -1,0 +1,61 @@
+// An answer's bytes, put one after the other into a lent buffer and written at once. Each call takes how many bytes are used and
+// answers how many are used then; what no longer fits is left out, and the caller lends enough for its longest answer.
+use libc::STDOUT_FILENO;
+ghost use mathlib.Core.Path.{_≡_};
+ghost use Rattle.text.specs.Numbers.{capital};
+
+pub fn put_byte(out: &mut [u8], at: usize, byte: u8) -> usize {
+    if at < out.len() {
+        out[at] = byte;
+        return at + 1;
+    }
+    at
+}
+
+pub fn put(out: &mut [u8], at: usize, s: &[u8]) -> usize {
+    let mut n = at;
+    let mut i: usize = 0;
+    while i < s.len() {
+        n = put_byte(out, n, s[i]);
+        i += 1;
+    }
+    n
+}
+
+pub fn put_decimal(out: &mut [u8], at: usize, x: u64) -> usize {
+    let mut digits = [0u8; 20];
+    let k = io::decimal(x, &mut digits);
+    put(out, at, &digits[..k])
+}
+
+// "Contents are printed in hex with capital digits."
+fn hex_digit(x: u64) -> u8
+    ensures { λ r. ⌜ r ≡ capital x ⌝ }
+{
+    let d = (x % 16) as u8;
+    if d < 10 { 48 + d } else { 55 + d }
+}
+
+// "2 for a response or an 8-bit register": of a larger number, those of its low 8 bits.
+pub fn put_hex2(out: &mut [u8], at: usize, x: u64) -> usize {
+    let n = put_byte(out, at, hex_digit(x / 16));
+    put_byte(out, n, hex_digit(x))
+}
+
+// "16 of them for a word or an N-bit register": two at a time, the highest first.
+pub fn put_hex16(out: &mut [u8], at: usize, x: u64) -> usize {
+    let mut n = at;
+    let mut left: u32 = 8;
+    while 0 < left {
+        left -= 1;
+        n = put_hex2(out, n, x >> (8 * left));
+    }
+    n
+}
+
+// Writes the first `n` bytes.
+pub fn write(out: &[u8], n: usize) {
+    if n <= out.len() {
+        io::write_all(STDOUT_FILENO, &out[0..n]);
+    }
+}
