@@ -10,7 +10,7 @@ use std::thread;
 use std::time::Duration;
 
 /// How long one script may take.
-const LIMIT: Duration = Duration::from_secs(120);
+const LIMIT: Duration = Duration::from_secs(60);
 
 /// A running program, ended if it takes too long or is no longer wanted.
 struct Running {

@@ -63,8 +63,10 @@ fn compare(score: &mut Score, board: &str, script: &[u8], stepped: bool) -> Resu
         } else {
             player::play(board, script)?
         };
-        told::hold(&told, &output)?;
-        end?;
+        match (told::hold(&told, &output), end) {
+            (Err(wrong), Err(late)) => return Err(format!("{wrong}\n  {late}")),
+            (held, end) => held.and(end)?,
+        }
     }
     promises::hold(&told)
 }
