@@ -68,7 +68,7 @@ const NAMED: [&str; 40] = [
     "line: with 17 digits",
 ];
 
-const RARER: [&str; 22] = [
+const RARER: [&str; 21] = [
     "line: of 20,000 bytes",
     "line: with a carriage return",
     "line: with a byte above 7F",
@@ -90,7 +90,6 @@ const RARER: [&str; 22] = [
     "stray: mor alone",
     "numbers 8 and 11 at once",
     "numbers 9 and 10 at once",
-    "pulse: n 1023",
 ];
 
 /// The reasons for number 8 that a start can have, each the only one.
@@ -185,10 +184,9 @@ impl Needs {
                 }
             }
             for width in 1..=64 {
-                self.add(SOMETIMES, format!("{way}: width {width}"));
-            }
-            for width in [1, 2, 7, 8, 31, 32, 33, 63, 64] {
-                self.add(OFTEN, format!("{way}: width {width}"));
+                let edge = [1, 2, 7, 8, 31, 32, 33, 63, 64].contains(&width);
+                let least = if edge { OFTEN } else { SOMETIMES };
+                self.add(least, format!("{way}: width {width}"));
             }
             for n in (1..=40).chain([1023, 1024]) {
                 self.add(SOMETIMES, format!("{way}: n {n}"));
