@@ -1,7 +1,7 @@
 //! The stated end of a job, held against the images before and after it. It
 //! is worked out from the words' numbers at once, without any pulse.
 
-use crate::Told;
+use crate::told::Told;
 use processor::image;
 use processor::machine::{is_selected, Machine, MOST_WORDS};
 use processor::syllable::Syllable;
@@ -21,7 +21,7 @@ struct Start {
 
 /// Holds the end of an accepted job against its start.
 pub fn hold(before: &Told, start: &Told, end: &Told) -> Result<(), String> {
-    if start.answer != "ok" {
+    if start.answer.as_deref() != Some("ok") {
         return Ok(());
     }
     let told = (machine_of(before), start_of(start), machine_of(end));
@@ -38,7 +38,7 @@ pub fn hold(before: &Told, start: &Told, end: &Told) -> Result<(), String> {
 
 /// The machine of a stored image that holds no job.
 fn machine_of(told: &Told) -> Option<Machine> {
-    let digits = told.answer.strip_prefix("image ")?;
+    let digits = told.answer.as_deref()?.strip_prefix("image ")?;
     let mut bytes = Vec::new();
     for at in (0..digits.len()).step_by(2) {
         bytes.push(u8::from_str_radix(digits.get(at..at + 2)?, 16).ok()?);
@@ -49,7 +49,7 @@ fn machine_of(told: &Told) -> Option<Machine> {
 
 fn start_of(told: &Told) -> Option<Start> {
     let text = std::str::from_utf8(&told.line).ok()?;
-    let words: Vec<&str> = text.split(' ').filter(|word| !word.is_empty()).collect();
+    let words: Vec<&str> = text.split_ascii_whitespace().collect();
     let decimal = |at: usize| words.get(at)?.parse::<u64>().ok();
     let hex = |at: usize| u64::from_str_radix(words.get(at)?, 16).ok();
     let span = |at: usize| {

@@ -9,7 +9,7 @@ use processor::syllable::syllables;
 
 /// A width the machine takes, most often one at an edge.
 pub fn good_width(rng: &mut Rng) -> u8 {
-    if rng.once_in(3) {
+    if rng.once_in(2) {
         rng.between(1, 64) as u8
     } else {
         rng.pick(&[1, 2, 7, 8, 31, 32, 33, 63, 64])
@@ -29,9 +29,9 @@ pub fn any_width(rng: &mut Rng) -> u8 {
 pub fn any_size(rng: &mut Rng) -> usize {
     match rng.below(40) {
         0 => 0,
-        1 => rng.pick(&[1023, 1024, 1025]),
-        2 => rng.pick(&[1024, 1025, 2048]),
-        3..=10 => rng.pick(&[1, 2, 3, 4, 5]),
+        1 | 2 => rng.pick(&[1023, 1024]),
+        3 => rng.pick(&[1025, 1025, 2048]),
+        4..=10 => rng.pick(&[1, 2, 3, 4, 5]),
         _ => rng.between(1, 40) as usize,
     }
 }
@@ -55,15 +55,34 @@ pub fn number(rng: &mut Rng, width: u8, known: &[u64]) -> u64 {
     chosen & ones(width)
 }
 
-/// The same, now and then with a one at or above the width.
-pub fn perhaps_stray(rng: &mut Rng, width: u8, known: &[u64]) -> u64 {
-    let value = number(rng, width, known);
+/// A number to hold against the words: most often equal to one of them or one
+/// bit away from it.
+pub fn comparand(rng: &mut Rng, width: u8, known: &[u64]) -> u64 {
+    if known.is_empty() || rng.once_in(4) {
+        return number(rng, width, known);
+    }
+    let width = u32::from(width.clamp(1, 64));
+    let away = if rng.once_in(2) {
+        0
+    } else {
+        one_at(rng.below(u64::from(width)) as u32)
+    };
+    (rng.pick(known) ^ away) & ones(width)
+}
+
+/// The same number, now and then with a one at or above the width.
+pub fn perhaps_stray(rng: &mut Rng, width: u8, value: u64) -> u64 {
     if width >= 64 || !rng.once_in(50) {
         return value;
     }
+    value | stray_bit(rng, width)
+}
+
+/// A one at or above a width below 64.
+pub fn stray_bit(rng: &mut Rng, width: u8) -> u64 {
     let anywhere = rng.between(u64::from(width), 63);
     let place = rng.pick(&[u64::from(width), 63, anywhere]);
-    value | one_at(place as u32)
+    one_at(place as u32)
 }
 
 /// A response or an 8-bit register: few bits, so that selections differ.
@@ -79,10 +98,11 @@ pub fn byte(rng: &mut Rng) -> u8 {
 
 /// A care register: most often of one or no bit.
 pub fn care(rng: &mut Rng) -> u8 {
-    match rng.below(6) {
-        0 | 1 => 0,
-        2 | 3 => 1 << rng.below(3),
+    match rng.below(8) {
+        0 => 0,
+        1..=3 => 1 << rng.below(3),
         4 => byte(rng),
+        5 => (1 << rng.below(3)) | (1 << rng.below(8)),
         _ => 1 << rng.below(8),
     }
 }
@@ -102,21 +122,27 @@ pub fn definition(rng: &mut Rng, width: u8) -> u64 {
 }
 
 /// Codes for a search: SC1 and SC2. Well formed are those with one code in
-/// each syllable; mixed ones are left to chance.
+/// each syllable; mixed ones are left to chance. Where many syllables care,
+/// hardly a word matches, so half of the time one alone does.
 pub fn codes(rng: &mut Rng, sdr: u64, width: u8) -> (u64, u64) {
     let mask = ones(u32::from(width.min(64)));
     if rng.once_in(12) {
         return (rng.next() & mask, rng.next() & mask);
     }
     let (mut sc1, mut sc2) = (0, 0);
-    for syllable in syllables(sdr, width.min(64)) {
+    let all = syllables(sdr, width.min(64));
+    let alone = rng.once_in(2).then(|| rng.below(all.len() as u64) as usize);
+    for (index, syllable) in all.into_iter().enumerate() {
+        if alone.is_some_and(|chosen| chosen != index) {
+            continue;
+        }
         let kept = match rng.below(4) {
             0 => rng.next(),
             1 => rng.next() | rng.next(),
             _ => u64::MAX,
         };
         let bits = syllable.bits() & kept;
-        let code = rng.pick(&[0, 0, 1, 1, 1, 2, 2, 3, 3]);
+        let code = rng.pick(&[0, 1, 1, 2, 2, 2, 3, 3, 3]);
         sc1 |= if code >= 2 { bits } else { 0 };
         sc2 |= if code % 2 == 1 { bits } else { 0 };
     }
@@ -294,7 +320,11 @@ fn below_or_edge(rng: &mut Rng, bound: u8) -> u8 {
 
 /// The same job at a place just beyond its table.
 fn spoil_place(rng: &mut Rng, job: &mut Job) {
-    match rng.below(7) {
+    match rng.below(8) {
+        7 if job.kind == PRODUCT => {
+            job.i = job.a.width.min(job.p.width).saturating_sub(1);
+            job.j = job.p.width.wrapping_sub(job.i);
+        }
         0 => job.phase = rng.pick(&[0, 3, 255]),
         1 => job.i = rng.pick(&[job.a.width, job.p.width, 64, 255]),
         2 => job.j = rng.pick(&[job.b.width, 1, 255]),

@@ -142,7 +142,13 @@ impl Writer {
 
 /// The digits of an image.
 pub fn digits(image: &[u8]) -> String {
-    image.iter().map(|byte| format!("{byte:02X}")).collect()
+    let digit = |value: u8| char::from(b"0123456789ABCDEF"[usize::from(value)]);
+    let mut text = String::with_capacity(2 * image.len());
+    for byte in image {
+        text.push(digit(byte >> 4));
+        text.push(digit(byte & 15));
+    }
+    text
 }
 
 /// The image of some digits.

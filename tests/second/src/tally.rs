@@ -1,0 +1,176 @@
+//! What random scripts bring out, counted, so that no kind of thing is missing
+//! unseen. The counts are of what happened on the second program.
+
+use crate::tally::facts::Facts;
+use processor::console::Console;
+use processor::line::{read_line, Line, LONGEST};
+use std::collections::BTreeMap;
+
+mod facts;
+mod needed;
+mod reasons;
+
+pub use needed::needed;
+
+/// A round on its way: its X, and what has happened in it.
+#[derive(Default)]
+struct Round {
+    x: Vec<u8>,
+    done: u64,
+    faulty: u64,
+    refused: u64,
+    stops: u64,
+}
+
+#[derive(Default)]
+pub struct Tally {
+    pub counts: BTreeMap<String, u64>,
+    pub commands: u64,
+    round: Option<Round>,
+}
+
+impl Tally {
+    /// Counts what a whole script brings out.
+    pub fn script(&mut self, script: &[u8]) {
+        let mut console = Console::new();
+        let mut input = script;
+        self.round = None;
+        while let Ok(Some(line)) = read_line(&mut input) {
+            self.line(&mut console, &line);
+        }
+        if !script.ends_with(b"\n") {
+            self.count("line: last without a newline");
+        }
+    }
+
+    fn count(&mut self, what: impl Into<String>) {
+        *self.counts.entry(what.into()).or_insert(0) += 1;
+    }
+
+    fn line(&mut self, console: &mut Console, line: &Line) {
+        for form in forms(line) {
+            self.count(format!("line: {form}"));
+        }
+        let words = line.words();
+        let mut facts = Facts::default();
+        if !line.too_long {
+            facts.before(console, &words);
+        }
+        let Some(answer) = console.answer(line) else {
+            self.count("line: silent");
+            return;
+        };
+        self.commands += 1;
+        if !line.too_long {
+            facts.after(console, &words, &answer);
+        }
+        for fact in facts.found {
+            self.count(fact);
+        }
+        self.verdict(&words, &answer);
+        self.follow_round(&words, &answer);
+    }
+
+    /// The command's name and how it went.
+    fn verdict(&mut self, words: &[&[u8]], answer: &str) {
+        let head: Vec<&str> = answer.split(' ').collect();
+        let name = String::from_utf8_lossy(words.first().unwrap_or(&&b""[..])).into_owned();
+        match head.as_slice() {
+            ["bad", ..] => self.count("line: bad"),
+            ["refused", number, ..] => {
+                self.count(format!("refused {number}"));
+                self.count(format!("{name}: refused {number}"));
+            }
+            _ => self.count(format!("{name}: accepted")),
+        }
+    }
+
+    /// A round from its first shown word to the answer none.
+    fn follow_round(&mut self, words: &[&[u8]], answer: &str) {
+        let mut round = self.round.take().unwrap_or_default();
+        match words {
+            [b"machine", ..] => round = Round::default(),
+            [b"show", x] if answer == "none" && round.x == *x => {
+                self.end_round(&round);
+                return;
+            }
+            [b"show", x] if answer.starts_with("word") && round.x != *x => {
+                round = Round {
+                    x: x.to_vec(),
+                    ..Round::default()
+                };
+            }
+            [b"done", x, ..] if round.x == *x && answer == "ok" => round.done += 1,
+            [b"faulty", x, ..] if round.x == *x && answer == "ok" => round.faulty += 1,
+            [b"done" | b"faulty", x, ..] if round.x == *x => round.refused += 1,
+            [b"resume", ..] if answer == "ok" => round.stops += 1,
+            _ => {}
+        }
+        self.round = Some(round).filter(|round| !round.x.is_empty());
+    }
+
+    fn end_round(&mut self, round: &Round) {
+        self.count("round: ended");
+        let happened = [
+            ("done answers", round.done),
+            ("faulty answers", round.faulty),
+            ("refused answers", round.refused),
+            ("stops", round.stops),
+        ];
+        for (what, times) in happened {
+            if times > 0 {
+                self.count(format!("round: ended after {what}"));
+            }
+        }
+        if round.done > 0 && round.faulty > 0 && round.stops > 0 {
+            self.count("round: ended after done, faulty and a stop");
+        }
+    }
+}
+
+/// The forms a line has that its answer may hang on.
+fn forms(line: &Line) -> Vec<&'static str> {
+    let bytes = &line.bytes;
+    let words = line.words();
+    let digits = |word: &&[u8]| word.iter().all(u8::is_ascii_hexdigit);
+    let held = [
+        ("over 20,000 bytes", line.too_long),
+        ("of 20,000 bytes", bytes.len() == LONGEST && !line.too_long),
+        ("with a tab", bytes.contains(&b'\t')),
+        ("with a carriage return", bytes.contains(&b'\r')),
+        (
+            "with a byte above 7F",
+            bytes.iter().any(|byte| *byte > 0x7F),
+        ),
+        ("with spaces first", bytes.starts_with(b" ")),
+        ("with spaces last", bytes.ends_with(b" ")),
+        (
+            "with spaces between",
+            bytes.windows(2).any(|pair| pair == b"  "),
+        ),
+        (
+            "with 16 digits",
+            words.iter().any(|w| w.len() == 16 && digits(w)),
+        ),
+        (
+            "with 17 digits",
+            words.iter().any(|w| w.len() == 17 && digits(w)),
+        ),
+        (
+            "with leading zeros",
+            words.iter().any(|w| w.starts_with(b"00")),
+        ),
+        ("a comment", bytes.starts_with(b"#")),
+        ("without a word", !line.has_word),
+        ("an empty resume", words == [b"resume"]),
+        ("an empty fit", words.len() == 3 && words[0] == b"fit"),
+        (
+            "a command in capitals",
+            bytes.first().is_some_and(u8::is_ascii_uppercase),
+        ),
+    ];
+    held.iter()
+        .filter(|(_, so)| *so)
+        .map(|(name, _)| *name)
+        .collect()
+}
