@@ -53,11 +53,11 @@ add-number c = search needs
 
 -- src/words.rt:63:5
 loop-less : tie.Need-loop-less Inv-loop μ-loop
-loop-less c = omega (arith, c .before .before .before .next .ensures .1 .1 (omega arith))
+loop-less c = omega (arith, c .before .before .before .next .ensures .1 .1 .1 (omega arith))
 
 -- src/words.rt:63:5
 loop-again : tie.Need-loop-again Inv-loop μ-loop
-loop-again c = omega (arith, c .before .before .before .next .ensures .1 .1 (omega arith))
+loop-again c = omega (arith, c .before .before .before .next .ensures .1 .1 .1 (omega arith))
 
 -- src/words.rt:60:1
 returns-2 : tie.Need-returns-2 Inv-loop μ-loop
