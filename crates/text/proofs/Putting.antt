@@ -18,7 +18,7 @@ module _ (out₀ : List ℕ) (at : ℕ) (s out : List ℕ) (n i : ℕ) (so-far :
   one-more h out′ n′ e f =
       record {
         place = omega (arith, so-far .place);
-        whole = rw (f, e, add-one n, add-one i) (rw (drop-cons s i 0) at (so-far .whole))
+        whole = rw (f, e, add-one n, add-one i) (rw (drop-cons s i 0) at (so-far .whole));
       }
 
   pub all-put : length s ≡ i → (n ≡ at + length s) × (out ≡ sets out₀ at s)

@@ -30,5 +30,5 @@ unfoldable pub wordAt : List ℕ → ℕ → Place
 wordAt line at =
     record {
       from = endOf true line (within line at);
-      to = endOf false line (endOf true line (within line at))
+      to = endOf false line (endOf true line (within line at));
     }

@@ -3,14 +3,10 @@ use native.Mathlib.Omega.{arith}
 use borrow.Author.Tests.{le-leb, lt-leb}
 use Rattle.text.proofs.words.inside.Statement.{statement}
 use Rattle.text.proofs.words.inside.Tie as tie
-use Rattle.text.proofs.words.inside.Reads as reads
-use Rattle.text.proofs.words.inside.Lts as lts
 
--- src/words.rt:34:1
 returns : tie.Need-returns
 returns c = (search (le-leb, lt-leb), omega arith, λ h. refl)
 
--- src/words.rt:34:1
 returns-2 : tie.Need-returns-2
 returns-2 c = (search (le-leb, lt-leb), omega arith, λ h. omega arith)
 

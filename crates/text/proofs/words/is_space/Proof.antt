@@ -1,14 +1,10 @@
 use mathlib.Core.Path.{refl}
 use Rattle.text.proofs.words.is_space.Statement.{statement}
 use Rattle.text.proofs.words.is_space.Tie as tie
-use Rattle.text.proofs.words.is_space.Reads as reads
-use Rattle.text.proofs.words.is_space.Lts as lts
 
--- src/words.rt:12:1
 returns : tie.Need-returns
 returns c = rw (c .if1 .taken)
 
--- src/words.rt:12:1
 returns-2 : tie.Need-returns-2
 returns-2 c = rw (c .if1 .left)
 

@@ -16,6 +16,7 @@ use machine::WordSlice;
 use text::Row;
 use text::arguments;
 use text::numbers;
+ghost use mathlib.Core.Path.{_≡_};
 
 fn clear_words(words: &mut [u64]) {
     let mut i: usize = 0;
@@ -34,7 +35,7 @@ fn clear_responses(responses: &mut [u8]) {
 }
 
 // machine N n
-pub(crate) fn make(board: Board, rest: &[u8], words: &mut [u64], responses: &mut [u8]) -> Turn {
+pub fn make(board: Board, rest: &[u8], words: &mut [u64], responses: &mut [u8]) -> Turn {
     let row = arguments::read(rest, b"bn");
     if !row.right {
         return bad_line(board);
@@ -46,7 +47,7 @@ pub(crate) fn make(board: Board, rest: &[u8], words: &mut [u64], responses: &mut
 }
 
 // lend m
-pub(crate) fn lend(board: Board, rest: &[u8], responses: &mut [u8]) -> Turn {
+pub fn lend(board: Board, rest: &[u8], responses: &mut [u8]) -> Turn {
     let row = arguments::read(rest, b"n");
     if !row.right {
         return bad_line(board);
@@ -58,7 +59,9 @@ pub(crate) fn lend(board: Board, rest: &[u8], responses: &mut [u8]) -> Turn {
 }
 
 // word I HEX
-pub(crate) fn write_word(rest: &[u8], words: &mut [u64]) -> Outcome {
+pub fn write_word(rest: &[u8], words: &mut [u64]) -> Outcome
+    ensures { λ r. ⌜ (r ≡ Outcome.BadLine → now (words .exit) ≡ now (words .entry)) ⌝ }
+{
     let row = arguments::read(rest, b"ax");
     if !row.right {
         return Outcome::BadLine;
@@ -72,7 +75,9 @@ pub(crate) fn write_word(rest: &[u8], words: &mut [u64]) -> Outcome {
 }
 
 // response I HEX
-pub(crate) fn write_response(rest: &[u8], responses: &mut [u8]) -> Outcome {
+pub fn write_response(rest: &[u8], responses: &mut [u8]) -> Outcome
+    ensures { λ r. ⌜ (r ≡ Outcome.BadLine → now (responses .exit) ≡ now (responses .entry)) ⌝ }
+{
     let row = arguments::read(rest, b"ah");
     if !row.right {
         return Outcome::BadLine;
@@ -112,7 +117,7 @@ fn read_value(register: usize, rest: &[u8]) -> Row {
 }
 
 // load R HEX, load address A
-pub(crate) fn load(board: Board, rest: &[u8]) -> Turn {
+pub fn load(board: Board, rest: &[u8]) -> Turn {
     let word = text::words::next(rest, 0);
     let from = word.from;
     let to = word.to;
@@ -132,7 +137,7 @@ pub(crate) fn load(board: Board, rest: &[u8]) -> Turn {
 }
 
 // panel
-pub(crate) fn tell_panel(board: Board, rest: &[u8]) -> Outcome {
+pub fn tell_panel(board: Board, rest: &[u8]) -> Outcome {
     if !arguments::none(rest) {
         return Outcome::BadLine;
     }
@@ -148,7 +153,7 @@ fn span(low: u64, width: u64) -> Span {
 }
 
 // The fields that `start` and `job` begin with: KIND KEY CARE X Y AL AW BL BW PL PW. The place is 0 and so is c.
-pub(crate) fn job_of(v: [u64; 16]) -> Job {
+pub fn job_of(v: [u64; 16]) -> Job {
     Job {
         kind: numbers::byte(v[0]),
         key: numbers::byte(v[1]),
@@ -166,7 +171,7 @@ pub(crate) fn job_of(v: [u64; 16]) -> Job {
 }
 
 // job KIND KEY CARE X Y AL AW BL BW PL PW PHASE I J C
-pub(crate) fn write_job(board: Board, rest: &[u8]) -> Turn {
+pub fn write_job(board: Board, rest: &[u8]) -> Turn {
     let row = arguments::read(rest, b"bhhbbbbbbbbbbbx");
     if !row.right {
         return bad_line(board);
@@ -181,7 +186,7 @@ pub(crate) fn write_job(board: Board, rest: &[u8]) -> Turn {
 }
 
 // drop
-pub(crate) fn drop_job(board: Board, rest: &[u8]) -> Turn {
+pub fn drop_job(board: Board, rest: &[u8]) -> Turn {
     if !arguments::none(rest) {
         return bad_line(board);
     }
