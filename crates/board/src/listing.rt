@@ -4,8 +4,6 @@ use crate::replies::put_pair;
 use crate::replies::put_refusal;
 use image::Read;
 use text::output;
-ghost use mathlib.Core.Path.{_≡_};
-ghost use lib.ListN.{length};
 
 // "contents hex, 16 and 2 capital digits, other numbers decimal"
 fn put_line(out: &mut [u8], at: usize, i: usize, word: u64, response: u8) -> usize {

@@ -3,12 +3,10 @@
 mod listing;
 mod replies;
 
-use console::Board;
-use console::Outcome;
+use commands::Board;
+use commands::Outcome;
 use lines::Line;
 use lines::Reader;
-ghost use mathlib.Core.Path.{_≡_};
-ghost use lib.ListN.{length};
 
 const COMMENT: u8 = 35;
 
@@ -102,7 +100,7 @@ fn serve(
     out: &mut [u8],
 ) {
     let mut standing = Standing {
-        board: console::fresh(8, 3),
+        board: commands::fresh(8, 3),
         reader: lines::start(),
     };
     let mut turns = u64::MAX;

@@ -1,6 +1,6 @@
 // What is printed of each outcome: one line, but for the list.
 use crate::listing;
-use console::Outcome;
+use commands::Outcome;
 use plans::Command;
 use machine::Panel;
 use machine::Refusal;

@@ -1,112 +1,11 @@
-// The console's commands: each line is taken apart, given to the library, and the library's answer handed back to be printed.
-// docs/BOARD.md has the language. "The console checks nothing that document 01 gives a refusal for": what it turns down itself is a
-// line that is none of its own, and such a line changes nothing.
-mod calls;
-mod host;
-mod images;
-mod working;
-
-use plans::Command;
-use plans::Held;
-use machine::Panel;
-use machine::Refusal;
-use machine::WordSlice;
-
-// The machine but for its two lent buffers, of which it says how many entries are its own.
-pub struct Board {
-    pub width: u32,
-    pub words: usize,
-    pub responses: usize,
-    pub panel: Panel,
-    pub held: Held,
-}
-
-// What is to be printed of a line.
-pub enum Outcome {
-    BadLine,
-    Fine,
-    Refused(Refusal),
-    Pulsed {
-        count: usize,
-        read: u64,
-    },
-    Word(WordSlice),
-    NoWord,
-    Registers(Panel),
-    Gave {
-        command: Command,
-        count: usize,
-        held: bool,
-    },
-    Pulses(u64),
-    // An image of so many bytes: all of it, its length alone, and what the program list prints of it.
-    Image(usize),
-    Length(usize),
-    Listing(usize),
-}
-
-// The board after a line, and what is to be printed.
-pub struct Turn {
-    pub board: Board,
-    pub outcome: Outcome,
-}
-
-// "machine N n", but for the buffers.
-pub fn fresh(width: u32, words: usize) -> Board {
-    Board {
-        width,
-        words,
-        responses: words,
-        panel: Panel {
-            comp: 0,
-            sdr: 0,
-            sc1: 0,
-            sc2: 0,
-            mor: 0,
-            key: 0,
-            care: 0,
-            target: 0,
-            address: WordSlice(0),
-        },
-        held: Held::Nothing,
-    }
-}
-
-// ---- how a command ends
-
-pub(crate) fn bad_line(board: Board) -> Turn {
-    Turn {
-        board,
-        outcome: Outcome::BadLine,
-    }
-}
-
-pub(crate) fn fine(board: Board) -> Turn {
-    Turn {
-        board,
-        outcome: Outcome::Fine,
-    }
-}
-
-pub(crate) fn refused(board: Board, why: Refusal) -> Turn {
-    Turn {
-        board,
-        outcome: Outcome::Refused(why),
-    }
-}
-
-pub(crate) fn with_held(board: Board, held: Held) -> Board {
-    let panel = board.panel;
-    Board {
-        width: board.width,
-        words: board.words,
-        responses: board.responses,
-        panel,
-        held,
-    }
-}
-
-// ---- which command it is
+// Which command a line is. docs/BOARD.md has the language; `commands` says what each command does with the rest of its line.
+use commands::Board;
+use commands::Outcome;
+use commands::Turn;
+use commands::calls;
+use commands::host;
+use commands::images;
+use commands::working;
 
 // One line that has a word, on buffers that are as long as any machine of the console needs. `bytes` is room for an image.
 pub fn obey(
@@ -160,10 +59,10 @@ fn on_machine(
     let n = board.words;
     let m = board.responses;
     if words.len() < n {
-        return bad_line(board);
+        return commands::bad_line(board);
     }
     if responses.len() < m {
-        return bad_line(board);
+        return commands::bad_line(board);
     }
     change(
         board,

@@ -1,1 +1,4 @@
+pub mod Letters
+pub mod Putting
 pub mod Reading
+pub mod Runs

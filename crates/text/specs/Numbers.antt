@@ -41,6 +41,15 @@ unfoldable pub atMost : ℕ → Number → Number
 atMost most (Is x) = pick (leb x most) (Is x) Bad
 atMost most Bad = Bad
 
+-- the number that a command's letter asks for: b 98, n 110, k 107 and a 97 decimal, h 104 and any other hex
+unfoldable pub letterOf : ℕ → List ℕ → Number
+letterOf letter s =
+    pick (eqb letter 98) (atMost 255 (decimalOf s))
+    (pick (eqb letter 110) (atMost 2048 (decimalOf s))
+    (pick (eqb letter 107) (atMost 20000 (decimalOf s))
+    (pick (eqb letter 97) (decimalOf s)
+    (pick (eqb letter 104) (atMost 255 (hexOf s)) (hexOf s)))))
+
 -- the digits 0 to 9 and A to F, of a number's last place in hex
 unfoldable pub capital : ℕ → ℕ
 capital x = pick (ltb (x % 16) 10) (48 + x % 16) (55 + x % 16)

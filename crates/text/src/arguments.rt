@@ -3,9 +3,15 @@ use crate::Number;
 use crate::Row;
 use crate::numbers;
 use crate::words;
+ghost use mathlib.Core.Path.{_≡_};
+ghost use lib.Dec.{eqb};
+ghost use Rattle.text.specs.Numbers.{letterOf};
+ghost use Rattle.text.specs.Words.{wordAt};
 
 // A letter's number: b n k a are decimal, to 255, 2048, 20000 and 2^64 - 1; h and x are hex, to FF and 16 digits.
-pub fn read_one(letter: u8, word: &[u8]) -> Number {
+pub fn read_one(letter: u8, word: &[u8]) -> Number
+    ensures { λ r. ⌜ r ≡ letterOf letter (now (word .entry)) ⌝ }
+{
     match letter {
         b'b' => numbers::at_most(numbers::decimal(word), 255),
         b'n' => numbers::at_most(numbers::decimal(word), 2048),
@@ -49,6 +55,8 @@ pub fn read(line: &[u8], letters: &[u8]) -> Row {
 }
 
 // No word at all.
-pub fn none(line: &[u8]) -> bool {
+pub fn none(line: &[u8]) -> bool
+    ensures { λ r. ⌜ r ≡ eqb (wordAt (now (line .entry)) 0 .from) (wordAt (now (line .entry)) 0 .to) ⌝ }
+{
     words::none_left(line, 0)
 }

@@ -2,7 +2,7 @@
 // zeros are taken". A number of 2^64 or more is a bad one. Also an image's bytes, each a pair of hex digits.
 use crate::Number;
 ghost use mathlib.Core.Path.{_≡_};
-ghost use Prim.Native.Nat.{_≤_};
+ghost use Prim.Native.Nat.{_≤_, _%_};
 ghost use lib.ListN.{length};
 ghost use Rattle.text.specs.Numbers.{digitOf, numberOf, decimalOf, hexOf, atMost};
 
@@ -88,7 +88,9 @@ pub fn at_most(x: Number, most: u64) -> Number
 }
 
 // The low 8 bits: the number itself where it was read as one to 255.
-pub fn byte(x: u64) -> u8 {
+pub fn byte(x: u64) -> u8
+    ensures { λ r. ⌜ r ≡ x % 256 ⌝ }
+{
     (x % 256) as u8
 }
 

@@ -2,9 +2,15 @@
 // answers how many are used then; what no longer fits is left out, and the caller lends enough for its longest answer.
 use libc::STDOUT_FILENO;
 ghost use mathlib.Core.Path.{_≡_};
+ghost use mathlib.Core.List.{[], _∷_};
+ghost use Prim.Native.Nat.{_+_, _/_, _<_, _≤_};
+ghost use lib.ListN.{length, set};
+ghost use lib.Seq.{sets};
 ghost use Rattle.text.specs.Numbers.{capital};
 
-pub fn put_byte(out: &mut [u8], at: usize, byte: u8) -> usize {
+pub fn put_byte(out: &mut [u8], at: usize, byte: u8) -> usize
+    ensures { λ r. ⌜ (at < length (now (out .entry)) → (r ≡ at + 1) × (now (out .exit) ≡ set (now (out .entry)) at byte)) ⌝ }
+{
     if at < out.len() {
         out[at] = byte;
         return at + 1;
@@ -12,7 +18,9 @@ pub fn put_byte(out: &mut [u8], at: usize, byte: u8) -> usize {
     at
 }
 
-pub fn put(out: &mut [u8], at: usize, s: &[u8]) -> usize {
+pub fn put(out: &mut [u8], at: usize, s: &[u8]) -> usize
+    ensures { λ r. ⌜ (at + length (now (s .entry)) ≤ length (now (out .entry)) → (r ≡ at + length (now (s .entry))) × (now (out .exit) ≡ sets (now (out .entry)) at (now (s .entry)))) ⌝ }
+{
     let mut n = at;
     let mut i: usize = 0;
     while i < s.len() {
@@ -37,7 +45,9 @@ fn hex_digit(x: u64) -> u8
 }
 
 // "2 for a response or an 8-bit register": of a larger number, those of its low 8 bits.
-pub fn put_hex2(out: &mut [u8], at: usize, x: u64) -> usize {
+pub fn put_hex2(out: &mut [u8], at: usize, x: u64) -> usize
+    ensures { λ r. ⌜ (at + 2 ≤ length (now (out .entry)) → (r ≡ at + 2) × (now (out .exit) ≡ sets (now (out .entry)) at (capital (x / 16) ∷ (capital x ∷ [])))) ⌝ }
+{
     let n = put_byte(out, at, hex_digit(x / 16));
     put_byte(out, n, hex_digit(x))
 }

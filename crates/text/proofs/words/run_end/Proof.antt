@@ -1,44 +1,31 @@
-use Prim.Native.Nat.{_-_, _≤_}
-use lib.ListN.{length}
+use Prim.Native.Nat.{_+_, _-_, _≤_}
+use mathlib.Core.Path.{_≡_, refl, sym, _∙_}
+use native.Mathlib.Omega.{arith}
+use borrow.Author.Tests.{not-true, not-false}
+use lib.ListN.{length, drop}
+use Rattle.text.specs.Words.{ahead, isSpace, endOf}
+use Rattle.text.proofs.Runs.{passes, stops, at-end}
 use borrow.Author.Needs.{needs}
 use Rattle.text.proofs.words.run_end.Statement.{statement}
 use Rattle.text.proofs.words.run_end.Tie as tie
-use Rattle.text.proofs.words.run_end.Reads as reads
-use Rattle.text.proofs.words.run_end.Lts as lts
 
 abbrev Inv-loop : tie.InvT-loop
-Inv-loop line at spaces i₀ i = (at ≤ i) × (i ≤ length line)
+Inv-loop line at spaces i₀ i = (at ≤ i) × (i ≤ length line) × (i + ahead (isSpace spaces) (drop i line) ≡ endOf spaces line at)
 
 abbrev μ-loop : tie.MeasureT-loop
 μ-loop line at spaces i₀ i = length line - i
 
--- src/words.rt:14:5
 loop-holds : tie.Need-loop-holds Inv-loop μ-loop
-loop-holds c = search needs
+loop-holds c = (omega arith, omega arith, refl)
 
--- src/words.rt:15:20
-shared-slice-read-byte : tie.Need-shared-slice-read-byte Inv-loop μ-loop
-shared-slice-read-byte c = search needs
-
--- src/words.rt:17:13
 returns : tie.Need-returns Inv-loop μ-loop
-returns c = search needs
+returns c = let l = c .before .before .before .before .loop in let a = c .before .before .before .before .before .before .args in let z = stops (isSpace (a .spaces)) (a .line .now) (l .i) (omega arith) (sym (c .before .is-space .ensures) ∙ not-true _ (c .if1 .taken)) in (omega arith, omega arith, omega (arith, l .inv .2, z))
 
--- src/words.rt:19:9
-add-i : tie.Need-add-i Inv-loop μ-loop
-add-i c = search needs
-
--- src/words.rt:14:5
-loop-less : tie.Need-loop-less Inv-loop μ-loop
-loop-less c = search needs
-
--- src/words.rt:14:5
 loop-again : tie.Need-loop-again Inv-loop μ-loop
-loop-again c = search needs
+loop-again c = let l = c .before .before .before .before .loop in let a = c .before .before .before .before .before .before .args in let z = passes (isSpace (a .spaces)) (a .line .now) (l .i) (omega arith) (sym (c .before .is-space .ensures) ∙ not-false _ (c .if1 .left)) in (omega arith, omega arith, omega (arith, l .inv .2, z))
 
--- src/words.rt:9:1
 returns-2 : tie.Need-returns-2 Inv-loop μ-loop
-returns-2 c = search needs
+returns-2 c = let l = c .before .loop in let a = c .before .before .before .args in let z = at-end (isSpace (a .spaces)) (a .line .now) (l .i) (omega arith) in (omega arith, omega arith, omega (arith, l .inv .2, z))
 
 pub run-end-spec : {M : Type 1} → statement M
 run-end-spec =
@@ -47,9 +34,10 @@ run-end-spec =
     Inv-loop
     μ-loop
     loop-holds
-    shared-slice-read-byte
+    (λ c. search needs)
+    (λ c κs. search needs)
     returns
-    add-i
-    loop-less
+    (λ c. search needs)
+    (λ c. search needs)
     loop-again
     returns-2)

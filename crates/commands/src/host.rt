@@ -11,11 +11,10 @@ use plans::Held;
 use plans::Job;
 use plans::Span;
 use machine::BitSlice;
-use machine::Panel;
-use machine::WordSlice;
 use text::Row;
 use text::arguments;
 use text::numbers;
+ghost use mathlib.Core.Path.{_≡_};
 
 fn clear_words(words: &mut [u64]) {
     let mut i: usize = 0;
@@ -34,7 +33,7 @@ fn clear_responses(responses: &mut [u8]) {
 }
 
 // machine N n
-pub(crate) fn make(board: Board, rest: &[u8], words: &mut [u64], responses: &mut [u8]) -> Turn {
+pub fn make(board: Board, rest: &[u8], words: &mut [u64], responses: &mut [u8]) -> Turn {
     let row = arguments::read(rest, b"bn");
     if !row.right {
         return bad_line(board);
@@ -46,7 +45,7 @@ pub(crate) fn make(board: Board, rest: &[u8], words: &mut [u64], responses: &mut
 }
 
 // lend m
-pub(crate) fn lend(board: Board, rest: &[u8], responses: &mut [u8]) -> Turn {
+pub fn lend(board: Board, rest: &[u8], responses: &mut [u8]) -> Turn {
     let row = arguments::read(rest, b"n");
     if !row.right {
         return bad_line(board);
@@ -58,7 +57,9 @@ pub(crate) fn lend(board: Board, rest: &[u8], responses: &mut [u8]) -> Turn {
 }
 
 // word I HEX
-pub(crate) fn write_word(rest: &[u8], words: &mut [u64]) -> Outcome {
+pub fn write_word(rest: &[u8], words: &mut [u64]) -> Outcome
+    ensures { λ r. ⌜ (r ≡ Outcome.BadLine → now (words .exit) ≡ now (words .entry)) ⌝ }
+{
     let row = arguments::read(rest, b"ax");
     if !row.right {
         return Outcome::BadLine;
@@ -72,7 +73,9 @@ pub(crate) fn write_word(rest: &[u8], words: &mut [u64]) -> Outcome {
 }
 
 // response I HEX
-pub(crate) fn write_response(rest: &[u8], responses: &mut [u8]) -> Outcome {
+pub fn write_response(rest: &[u8], responses: &mut [u8]) -> Outcome
+    ensures { λ r. ⌜ (r ≡ Outcome.BadLine → now (responses .exit) ≡ now (responses .entry)) ⌝ }
+{
     let row = arguments::read(rest, b"ah");
     if !row.right {
         return Outcome::BadLine;
@@ -83,21 +86,6 @@ pub(crate) fn write_response(rest: &[u8], responses: &mut [u8]) -> Outcome {
     }
     responses[i] = numbers::byte(row.values[1]);
     Outcome::Fine
-}
-
-// The registers by their number in the list of names that `load` has.
-fn loaded(panel: Panel, register: usize, value: u64) -> Panel {
-    match register {
-        0 => panel.load_comp(value),
-        1 => panel.load_sdr(value),
-        2 => panel.load_sc1(value),
-        3 => panel.load_sc2(value),
-        4 => panel.load_mor(value),
-        5 => panel.load_key(numbers::byte(value)),
-        6 => panel.load_care(numbers::byte(value)),
-        7 => panel.load_target(numbers::byte(value)),
-        _ => panel.load_address(WordSlice(value as usize)),
-    }
 }
 
 // A register's value: hex, to FF for the 8-bit ones; the address is decimal.
@@ -112,7 +100,7 @@ fn read_value(register: usize, rest: &[u8]) -> Row {
 }
 
 // load R HEX, load address A
-pub(crate) fn load(board: Board, rest: &[u8]) -> Turn {
+pub fn load(board: Board, rest: &[u8]) -> Turn {
     let word = text::words::next(rest, 0);
     let from = word.from;
     let to = word.to;
@@ -125,14 +113,15 @@ pub(crate) fn load(board: Board, rest: &[u8]) -> Turn {
     if (8 < register) | !row.right {
         return bad_line(board);
     }
-    let panel = loaded(board.panel, register, row.values[0]);
+    // the list of names has the registers in the order of their numbers
+    let loaded = panel::load(board.panel, register as u8, row.values[0]);
     let mut changed = board;
-    changed.panel = panel;
+    changed.panel = loaded;
     fine(changed)
 }
 
 // panel
-pub(crate) fn tell_panel(board: Board, rest: &[u8]) -> Outcome {
+pub fn tell_panel(board: Board, rest: &[u8]) -> Outcome {
     if !arguments::none(rest) {
         return Outcome::BadLine;
     }
@@ -148,7 +137,7 @@ fn span(low: u64, width: u64) -> Span {
 }
 
 // The fields that `start` and `job` begin with: KIND KEY CARE X Y AL AW BL BW PL PW. The place is 0 and so is c.
-pub(crate) fn job_of(v: [u64; 16]) -> Job {
+pub fn job_of(v: [u64; 16]) -> Job {
     Job {
         kind: numbers::byte(v[0]),
         key: numbers::byte(v[1]),
@@ -166,7 +155,7 @@ pub(crate) fn job_of(v: [u64; 16]) -> Job {
 }
 
 // job KIND KEY CARE X Y AL AW BL BW PL PW PHASE I J C
-pub(crate) fn write_job(board: Board, rest: &[u8]) -> Turn {
+pub fn write_job(board: Board, rest: &[u8]) -> Turn {
     let row = arguments::read(rest, b"bhhbbbbbbbbbbbx");
     if !row.right {
         return bad_line(board);
@@ -181,7 +170,7 @@ pub(crate) fn write_job(board: Board, rest: &[u8]) -> Turn {
 }
 
 // drop
-pub(crate) fn drop_job(board: Board, rest: &[u8]) -> Turn {
+pub fn drop_job(board: Board, rest: &[u8]) -> Turn {
     if !arguments::none(rest) {
         return bad_line(board);
     }

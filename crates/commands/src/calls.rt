@@ -10,7 +10,7 @@ use rounds::Reply;
 use rounds::Verdict;
 use text::arguments;
 use text::numbers;
-ghost use Prim.Native.Nat.{_≤_};
+ghost use mathlib.Core.Path.{_≡_};
 
 // The lines that a pulse's words name, "each at most once, in any order; none is taken too".
 pub enum Named {
@@ -81,7 +81,9 @@ fn read_lines(rest: &[u8]) -> Named {
     Named::Are(lines)
 }
 
-fn pulsed(answer: Answer) -> Outcome {
+fn pulsed(answer: Answer) -> Outcome
+    ensures { λ r. ⌜ (r ≡ Outcome.BadLine → ⊥) ⌝ }
+{
     match answer {
         Answer::Done { count, read } => Outcome::Pulsed { count, read },
         Answer::Refused(why) => Outcome::Refused(why),
@@ -89,7 +91,9 @@ fn pulsed(answer: Answer) -> Outcome {
 }
 
 // pulse L..
-pub(crate) fn pulse(board: Board, rest: &[u8], words: &mut [u64], responses: &mut [u8]) -> Outcome {
+pub fn pulse(board: Board, rest: &[u8], words: &mut [u64], responses: &mut [u8]) -> Outcome
+    ensures { λ r. ⌜ (r ≡ Outcome.BadLine → (now (words .exit) ≡ now (words .entry)) × (now (responses .exit) ≡ now (responses .entry))) ⌝ }
+{
     let named = read_lines(rest);
     let Named::Are(lines) = named else {
         return Outcome::BadLine;
@@ -99,7 +103,9 @@ pub(crate) fn pulse(board: Board, rest: &[u8], words: &mut [u64], responses: &mu
 }
 
 // cells L..
-pub(crate) fn cells(board: Board, rest: &[u8], words: &mut [u64], responses: &mut [u8]) -> Outcome {
+pub fn cells(board: Board, rest: &[u8], words: &mut [u64], responses: &mut [u8]) -> Outcome
+    ensures { λ r. ⌜ (r ≡ Outcome.BadLine → (now (words .exit) ≡ now (words .entry)) × (now (responses .exit) ≡ now (responses .entry))) ⌝ }
+{
     let named = read_lines(rest);
     let Named::Are(lines) = named else {
         return Outcome::BadLine;
@@ -117,7 +123,7 @@ fn resolved(found: Resolved) -> Outcome {
 }
 
 // resolve
-pub(crate) fn resolve(board: Board, rest: &[u8], words: &[u64], responses: &[u8]) -> Outcome {
+pub fn resolve(board: Board, rest: &[u8], words: &[u64], responses: &[u8]) -> Outcome {
     if !arguments::none(rest) {
         return Outcome::BadLine;
     }
@@ -126,7 +132,7 @@ pub(crate) fn resolve(board: Board, rest: &[u8], words: &[u64], responses: &[u8]
 }
 
 // tree
-pub(crate) fn tree(board: Board, rest: &[u8], words: &[u64], responses: &[u8]) -> Outcome {
+pub fn tree(board: Board, rest: &[u8], words: &[u64], responses: &[u8]) -> Outcome {
     if !arguments::none(rest) {
         return Outcome::BadLine;
     }
@@ -139,7 +145,7 @@ fn response_bit(x: u64) -> u32 {
 }
 
 // show X
-pub(crate) fn show(board: Board, rest: &[u8], words: &[u64], responses: &[u8]) -> Outcome {
+pub fn show(board: Board, rest: &[u8], words: &[u64], responses: &[u8]) -> Outcome {
     let row = arguments::read(rest, b"b");
     if !row.right {
         return Outcome::BadLine;
@@ -154,7 +160,9 @@ fn answer(
     words: &[u64],
     responses: &mut [u8],
     verdict: Verdict,
-) -> Outcome {
+) -> Outcome
+    ensures { λ r. ⌜ (r ≡ Outcome.BadLine → now (responses .exit) ≡ now (responses .entry)) ⌝ }
+{
     let row = arguments::read(rest, b"bba");
     if !row.right {
         return Outcome::BadLine;
@@ -170,11 +178,15 @@ fn answer(
 }
 
 // done X F I
-pub(crate) fn done(board: Board, rest: &[u8], words: &[u64], responses: &mut [u8]) -> Outcome {
+pub fn done(board: Board, rest: &[u8], words: &[u64], responses: &mut [u8]) -> Outcome
+    ensures { λ r. ⌜ (r ≡ Outcome.BadLine → now (responses .exit) ≡ now (responses .entry)) ⌝ }
+{
     answer(board, rest, words, responses, Verdict::Done)
 }
 
 // faulty X F I
-pub(crate) fn faulty(board: Board, rest: &[u8], words: &[u64], responses: &mut [u8]) -> Outcome {
+pub fn faulty(board: Board, rest: &[u8], words: &[u64], responses: &mut [u8]) -> Outcome
+    ensures { λ r. ⌜ (r ≡ Outcome.BadLine → now (responses .exit) ≡ now (responses .entry)) ⌝ }
+{
     answer(board, rest, words, responses, Verdict::Faulty)
 }

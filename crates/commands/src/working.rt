@@ -12,11 +12,9 @@ use jobs::Started;
 use jobs::Stepped;
 use tally::Total;
 use text::arguments;
-ghost use mathlib.Core.Path.{_≡_};
-ghost use lib.ListN.{length};
 
 // start KIND KEY CARE X Y AL AW BL BW PL PW C
-pub(crate) fn start(board: Board, rest: &[u8], words: &[u64], responses: &[u8]) -> Turn {
+pub fn start(board: Board, rest: &[u8], words: &[u64], responses: &[u8]) -> Turn {
     let row = arguments::read(rest, b"bhhbbbbbbbbx");
     if !row.right {
         return bad_line(board);
@@ -40,7 +38,7 @@ fn is_held(held: Held) -> bool {
 }
 
 // step
-pub(crate) fn step(board: Board, rest: &[u8], words: &mut [u64], responses: &mut [u8]) -> Turn {
+pub fn step(board: Board, rest: &[u8], words: &mut [u64], responses: &mut [u8]) -> Turn {
     if !arguments::none(rest) {
         return bad_line(board);
     }
@@ -110,7 +108,7 @@ fn to_the_end(started: Progress, width: u32, words: &mut [u64], responses: &mut 
 }
 
 // run: "at least one step, then steps until no job is held or a step is refused"
-pub(crate) fn run(board: Board, rest: &[u8], words: &mut [u64], responses: &mut [u8]) -> Turn {
+pub fn run(board: Board, rest: &[u8], words: &mut [u64], responses: &mut [u8]) -> Turn {
     if !arguments::none(rest) {
         return bad_line(board);
     }
@@ -142,7 +140,7 @@ fn go_on(board: Board, held: Held, words: &mut [u64], responses: &mut [u8]) -> T
 }
 
 // total
-pub(crate) fn total(board: Board, rest: &[u8], words: &[u64], responses: &[u8]) -> Outcome {
+pub fn total(board: Board, rest: &[u8], words: &[u64], responses: &[u8]) -> Outcome {
     if !arguments::none(rest) {
         return Outcome::BadLine;
     }

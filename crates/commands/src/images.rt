@@ -18,7 +18,7 @@ fn write(board: Board, words: &[u64], responses: &[u8], bytes: &mut [u8]) -> Wro
 }
 
 // store
-pub(crate) fn store(
+pub fn store(
     board: Board,
     rest: &[u8],
     words: &[u64],
@@ -36,7 +36,7 @@ pub(crate) fn store(
 }
 
 // list
-pub(crate) fn list(
+pub fn list(
     board: Board,
     rest: &[u8],
     words: &[u64],
@@ -54,7 +54,7 @@ pub(crate) fn list(
 }
 
 // room K
-pub(crate) fn room(
+pub fn room(
     board: Board,
     rest: &[u8],
     words: &[u64],
@@ -149,7 +149,7 @@ fn read_into(
 }
 
 // resume HEX..: "into the machine's own buffers, made 1024 long for it"
-pub(crate) fn resume(
+pub fn resume(
     board: Board,
     rest: &[u8],
     words: &mut [u64],
@@ -160,7 +160,7 @@ pub(crate) fn resume(
 }
 
 // fit W R HEX..: the two lengths, and the image's digits in what is left of the line.
-pub(crate) fn fit(
+pub fn fit(
     board: Board,
     rest: &[u8],
     words: &mut [u64],

@@ -1,0 +1,34 @@
+-- The words of a line: "Words of a line stand apart by one or more spaces, and by nothing else."
+-- Assumes nothing.
+use Prim.Native.Nat.{ℕ, _+_}
+use mathlib.Core.Bool.{Bool, true, false, not}
+use mathlib.Core.List.{List, [], _∷_}
+use lib.Dec.{leb, eqb}
+use lib.ListN.{length, drop}
+use Rattle.laws.specs.Bits.{pick}
+use Rattle.text.specs.declared.Place.{Place}
+
+-- how many bytes at the start of a list pass the test
+unfoldable pub ahead : (ℕ → Bool) → List ℕ → ℕ
+ahead f [] = 0
+ahead f (byte ∷ s) = pick (f byte) (ahead f s + 1) 0
+
+-- a space, or with false any other byte
+abbrev pub isSpace : Bool → ℕ → Bool
+isSpace spaces byte = pick spaces (eqb byte 32) (not (eqb byte 32))
+
+-- the end of the spaces, or of the other bytes, that stand at a place of the line
+abbrev pub endOf : Bool → List ℕ → ℕ → ℕ
+endOf spaces line at = at + ahead (isSpace spaces) (drop at line)
+
+-- past its end a line has nothing
+abbrev pub within : List ℕ → ℕ → ℕ
+within line at = pick (leb at (length line)) at (length line)
+
+-- the next word: past the spaces, and up to the next one
+unfoldable pub wordAt : List ℕ → ℕ → Place
+wordAt line at =
+    record {
+      from = endOf true line (within line at);
+      to = endOf false line (endOf true line (within line at));
+    }
