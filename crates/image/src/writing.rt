@@ -11,7 +11,7 @@ ghost use Prim.Native.Nat.{_+_, _*_, _≤_};
 ghost use lib.ListN.{length};
 ghost use Rattle.layout.specs.Format.{heldJobs};
 ghost use Rattle.image.specs.Calls.{badJob, writeCheck, writeOf, written};
-ghost use Rattle.parts.specs.Parts.{state};
+ghost use Rattle.jobs.specs.Runs.{state};
 
 // 8: the held job as after its start; none is fine.
 fn bad_job(width: u32, held: Held) -> bool

@@ -19,6 +19,7 @@ use Rattle.machine.specs.declared.Check.{Check}
 use Rattle.machine.specs.declared.Check.the-variants.{Passed, Refused}
 use Rattle.machine.specs.declared.Answer.{Answer}
 use Rattle.machine.specs.declared.Answer.the-variants.{Done}
+use Rattle.machine.specs.declared.Answer.the-variants as answer
 use Rattle.machine.specs.Machine.{Machine}
 use Rattle.machine.specs.Pulse.{countOf, readOf, pulsed}
 use Rattle.machine.specs.Resolution.{lowest}
@@ -223,7 +224,7 @@ read-given bs words responses = nine-ten (scanned bs) (ltb words (wordsIn bs) ||
 
 -- ---- the answer tells that number
 
-told-given : (c : Check) (a : Answer) → told a .refusal ≡ 0 → told (answerBy c a) .refusal ≡ given c
+told-given : (c : Check) (a : Answer) → told a .refusal ≡ 0 → told (answerBy c answer.Refused a) .refusal ≡ given c
 told-given Passed a h = h
 told-given (Refused r) a h = refl
 

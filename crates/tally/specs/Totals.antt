@@ -6,10 +6,9 @@ use mathlib.Core.List.{List, [], _∷_}
 use lib.Dec.{eqb, ltb}
 use Rattle.laws.specs.Bits.{bit, number, pick, digit}
 use Rattle.machine.specs.declared.Check.{Check}
-use Rattle.machine.specs.declared.Check.the-variants as check
 use Rattle.machine.specs.declared.Refusal.the-variants.{Unfit}
 use Rattle.machine.specs.Machine.{Machine, selected}
-use Rattle.machine.specs.Refusals.{_else_, refuse}
+use Rattle.machine.specs.Refusals.{_else_, refuse, answerBy}
 use Rattle.plans.specs.declared.Span.{Span}
 use Rattle.plans.specs.declared.Job.{Job}
 use Rattle.plans.specs.declared.Held.{Held}
@@ -79,9 +78,5 @@ abbrev pub heldPulses : Machine → Held → ℕ
 heldPulses m Nothing = 0
 heldPulses m (Holds o) = pulses m o
 
-abbrev pub totalBy : Check → ℕ → Total
-totalBy check.Passed k = total.Pulses k
-totalBy (check.Refused r) k = total.Refused r
-
 unfoldable pub totalOf : Machine → Held → Total
-totalOf m h = totalBy (totalCheck m h) (heldPulses m h)
+totalOf m h = answerBy (totalCheck m h) total.Refused (total.Pulses (heldPulses m h))

@@ -13,14 +13,16 @@ use Rattle.machine.specs.declared.Check.the-variants.{Passed}
 use Rattle.machine.specs.Machine.{Machine, machine}
 use Rattle.machine.specs.Refusals.{changeBy}
 use Rattle.resolver.proofs.Lowest.{none-exactly}
 use Rattle.rounds.specs.declared.Verdict.{Verdict}
 use Rattle.rounds.specs.Round.{has, shown, answered, answeredAt, badBits, answerCheck, afterAnswer}
-use Rattle.rounds.specs.Whole.{saysDone, verdictOf, tally, worked, isDone, isFaulty, roundCheck, afterEnded}
+use Rattle.handout.specs.Whole.{saysDone, verdictOf, tally, worked, isDone, isFaulty, roundCheck, afterEnded}
 use Rattle.rounds.specs.Handout.{responders, firstOf, Answers, none-yet, one-more}
 use Rattle.rounds.proofs.Passing.{accepted, acceptable}
-use Rattle.rounds.proofs.Answering.{lost, same-checks, answer-whole}
-use Rattle.rounds.proofs.Lists.{each-all}
-use Rattle.rounds.proofs.Responders.{first-lowest, first-off, each-once}
+use Rattle.rounds.proofs.Answering.{lost, same-checks}
+use Rattle.handout.proofs.Answering.{answer-whole}
+use Rattle.handout.proofs.Lists.{each-all}
+use Rattle.rounds.proofs.Responders.{first-lowest, first-off}
+use Rattle.handout.proofs.Counted.{each-once}
 
 -- an answer before the others
 pub one-before : {x f : ℕ} {n e : Machine} {us : List Verdict} (k : WordSlice) (v : Verdict) (m : Machine)

@@ -3,10 +3,11 @@
 use mathlib.Core.Path.{sym, _∙_}
 use borrow.Author.Needs.{needs}
 use Rattle.machine.specs.Machine.{machine}
 use Rattle.rounds.specs.Round.{badBits}
-use Rattle.rounds.proofs.Passing.{by-test, round-refused, round-ended}
-use Rattle.rounds.proofs.round.Statement.{statement}
-use Rattle.rounds.proofs.round.Tie as tie
+use Rattle.rounds.proofs.Passing.{by-test}
+use Rattle.handout.proofs.Passing.{round-refused, round-ended}
+use Rattle.handout.proofs.round.Statement.{statement}
+use Rattle.handout.proofs.round.Tie as tie
 
 bad-bits-requires : tie.Need-bad-bits-requires
 bad-bits-requires c κs = search needs

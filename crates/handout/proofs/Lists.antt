@@ -8,7 +8,7 @@ use native.Mathlib.Nat.{add-zero}
 use native.Mathlib.Omega.{arith}
 use lib.ListN.{length, getD, set}
 use Rattle.laws.specs.Bits.{digit}
-use Rattle.rounds.specs.Whole.{each, tally}
+use Rattle.handout.specs.Whole.{each, tally}
 
 at-behind : (k i : ℕ) → k + suc i ≡ suc k + i
 at-behind k i = omega arith

@@ -5,9 +5,9 @@ use mathlib.Core.Path.{_≡_, refl}
 use mathlib.Core.Bool.{true}
 use native.Mathlib.Omega.{arith}
 use borrow.Author.Needs.{needs}
-use Rattle.rounds.proofs.Working.{Working, left, start, few, over, turn}
-use Rattle.rounds.proofs.work.Statement.{statement}
-use Rattle.rounds.proofs.work.Tie as tie
+use Rattle.handout.proofs.Working.{Working, left, start, few, over, turn}
+use Rattle.handout.proofs.work.Statement.{statement}
+use Rattle.handout.proofs.work.Tie as tie
 
 abbrev Inv-loop : tie.InvT-loop
 Inv-loop words responses₀ width x f verdicts done₀ faulty₀ taken₀ responses done faulty taken =

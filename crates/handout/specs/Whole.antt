@@ -7,16 +7,15 @@ use lib.Dec.{eqb}
 use lib.ListN.{getD}
 use Rattle.laws.specs.Bits.{pick, digit}
 use Rattle.machine.specs.declared.Check.{Check}
-use Rattle.machine.specs.declared.Check.the-variants as check
 use Rattle.machine.specs.Machine.{Machine, machine}
-use Rattle.machine.specs.Refusals.{changeBy, numberOf, alsoAnswers}
+use Rattle.machine.specs.Refusals.{answerBy, changeBy, numberOf, alsoAnswers}
 use Rattle.rounds.specs.declared.Verdict.{Verdict}
 use Rattle.rounds.specs.declared.Verdict.the-variants.{Done, Faulty}
 use Rattle.rounds.specs.declared.Reply.{Reply}
 use Rattle.rounds.specs.declared.Reply.the-variants as reply
-use Rattle.rounds.specs.declared.Report.{Report}
-use Rattle.rounds.specs.declared.Report.the-variants as report
+use Rattle.handout.specs.declared.Report.{Report}
+use Rattle.handout.specs.declared.Report.the-variants as report
 use Rattle.rounds.specs.Round.{has, answered, badBits, bitsCheck}
 
 -- ---- the verdicts, by word number
 
@@ -67,12 +66,8 @@ afterEnded x f vs m = machine (m .width) (m .words) (each (worked x f vs) 0 (m .
 abbrev pub roundCheck : ℕ → ℕ → Machine → Check
 roundCheck x f m = bitsCheck (badBits x f) m
 
-abbrev pub reportBy : Check → Report → Report
-reportBy check.Passed r = r
-reportBy (check.Refused why) r = report.Refused why
-
 unfoldable pub reportOf : ℕ → ℕ → List ℕ → Machine → Report
-reportOf x f vs m = reportBy (roundCheck x f m) (ended x vs m)
+reportOf x f vs m = answerBy (roundCheck x f m) report.Refused (ended x vs m)
 
 unfoldable pub afterRound : ℕ → ℕ → List ℕ → Machine → Machine
 afterRound x f vs m = changeBy (roundCheck x f m) (afterEnded x f vs m) m

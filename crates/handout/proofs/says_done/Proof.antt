@@ -5,8 +5,8 @@ use mathlib.Core.Path.{ap, sym}
 use lib.Dec.{eqb}
 use lib.ListN.{List·getD-eq-default}
 use borrow.Author.Needs.{needs}
-use Rattle.rounds.proofs.says_done.Statement.{statement}
-use Rattle.rounds.proofs.says_done.Tie as tie
+use Rattle.handout.proofs.says_done.Statement.{statement}
+use Rattle.handout.proofs.says_done.Tie as tie
 
 -- src/lib.rt:158:9
 shared-slice-read-result : tie.Need-shared-slice-read-result

@@ -16,22 +16,23 @@ use Rattle.machine.specs.declared.Refusal.the-variants.{Unfit}
 use Rattle.machine.specs.declared.Check.{Check}
 use Rattle.machine.specs.declared.Check.the-variants.{Passed}
 use Rattle.machine.specs.Machine.{Machine, machine}
-use Rattle.machine.specs.Refusals.{machineCheck, refuse, changeBy}
+use Rattle.machine.specs.Refusals.{machineCheck, refuse, answerBy, changeBy}
 use Rattle.resolver.specs.declared.Resolved.{Resolved}
 use Rattle.resolver.specs.declared.Resolved.the-variants as resolved
-use Rattle.resolver.specs.Answers.{asResolved, answerBy}
+use Rattle.resolver.specs.Answers.{asResolved}
 use Rattle.resolver.proofs.Resolved.{the-type}
 use Rattle.resolver.proofs.Lowest.{none-exactly}
 use Rattle.resolver.proofs.Sizes.{sized, first-passed}
 use Rattle.rounds.specs.declared.Verdict.{Verdict}
 use Rattle.rounds.specs.declared.Reply.{Reply}
 use Rattle.rounds.specs.declared.Reply.the-variants as reply
-use Rattle.rounds.specs.declared.Report.the-variants as report
-use Rattle.rounds.specs.Round.{has, shown, answered, answeredAt, noBit, badBits, bitsCheck, answerCheck, showOf, replyBy, replyOf, afterAnswer}
-use Rattle.rounds.specs.Whole.{saysDone, verdictBy, isTaken, each, tally, worked, isDone, isFaulty, ended, afterEnded, roundCheck}
+use Rattle.handout.specs.declared.Report.the-variants as report
+use Rattle.rounds.specs.Round.{has, shown, answered, answeredAt, noBit, badBits, bitsCheck, answerCheck, showOf, replyOf, afterAnswer}
+use Rattle.handout.specs.Whole.{saysDone, verdictBy, isTaken, each, tally, worked, isDone, isFaulty, ended, afterEnded, roundCheck}
 use Rattle.rounds.proofs.Passing.{accepted, acceptable, show-passes}
-use Rattle.rounds.proofs.Lists.{each-all, tally-all, tally-few}
-use Rattle.rounds.proofs.Answering.{same-checks, and-false, stored, answer-whole, answer-done, answer-faulty}
+use Rattle.handout.proofs.Lists.{each-all, tally-all, tally-few}
+use Rattle.rounds.proofs.Answering.{same-checks}
+use Rattle.handout.proofs.Answering.{and-false, stored, answer-whole, answer-done, answer-faulty}
 
 -- ---- what show told
 
@@ -48,7 +49,7 @@ told-none Nothing s h e = refl
 
 not-turned-down : (x : ℕ) (m : Machine) (s : Resolved) → bitsCheck (noBit x) m ≡ Passed → s ≡ showOf x m → s ≡ asResolved (shown x m)
 unfolding showOf
-not-turned-down x m s p h = h ∙ ap (λ (c : Check). answerBy c (shown x m)) p
+not-turned-down x m s p h = h ∙ ap (λ (c : Check). answerBy c resolved.Refused (asResolved (shown x m))) p
 
 -- ---- the state of the loop
 pub record Working (x f : ℕ) (vs : List ℕ) (n : ℕ) (ws rs₀ rs : List ℕ) (done faulty : ℕ) : Type 0 where
@@ -94,7 +95,7 @@ module _ {x f : ℕ} {vs : List ℕ} {n : ℕ} {ws rs₀ rs : List ℕ} {done fa
     -- the answer is taken
     taken : replyOf x f k (machine n ws rs) ≡ reply.Taken
     unfolding replyOf
-    taken = ap replyBy check
+    taken = ap (λ (d : Check). answerBy d reply.Refused reply.Taken) check
 
     module _ (t : Bool) (says : t ≡ saysDone vs (k .0)) (qs : List ℕ) (answers : qs ≡ afterAnswer x f k (verdictBy t) (machine n ws rs) .responses) where
       changed : qs ≡ set rs (k .0) (stored x f rs (k .0) t)
