@@ -1,8 +1,8 @@
 -- All ones, shifted down, are the bits of a word.
-use Rattle.wide.proofs.Words.{mask-is}
+use Rattle.masks.proofs.Words.{mask-is}
 use borrow.Author.Needs.{needs}
-use Rattle.wide.proofs.mask_of.Statement.{statement}
-use Rattle.wide.proofs.mask_of.Tie as tie
+use Rattle.masks.proofs.mask_of.Statement.{statement}
+use Rattle.masks.proofs.mask_of.Tie as tie
 
 returns : tie.Need-returns
 returns c = mask-is (c .args .width) (c .pre .1)

@@ -1,8 +1,8 @@
 -- One wrapping add of whole words adds in each syllable.
-use Rattle.wide.proofs.Words.{sum-is}
+use Rattle.masks.proofs.Words.{sum-is}
 use borrow.Author.Needs.{needs}
-use Rattle.wide.proofs.add_word.Statement.{statement}
-use Rattle.wide.proofs.add_word.Tie as tie
+use Rattle.masks.proofs.add_word.Statement.{statement}
+use Rattle.masks.proofs.add_word.Tie as tie
 
 returns : tie.Need-returns
 returns c =

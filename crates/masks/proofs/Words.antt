@@ -6,10 +6,13 @@ use native.Mathlib.Nat.{mod-eq-of-lt}
 use native.Mathlib.Omega.{arith}
 use lib.Bits.{bitAnd, bitOr, bitXor, and-mask}
 use lib.Pow.{pow-pos, pow-lt, pow-mono, ones-split, ones-lt, high}
+use Rattle.machine.specs.declared.Panel.{Panel}
 use Rattle.fields.specs.Fields.{fields, addIn, aboveIn}
-use Rattle.fields.specs.Tops.{Topped}
+use Rattle.fields.specs.Tops.{topsOf, Topped}
+use Rattle.fields.proofs.Shape.{topped}
 use Rattle.fields.proofs.Sums.{word-add}
 use Rattle.fields.proofs.Above.{wide, word-gt}
+use Rattle.masks.specs.Plan.{Fit}
 
 -- all ones, shifted down
 pub mask-is : (n : ℕ) → n ≤ 64 → (2 ^ 64 - 1) / 2 ^ (64 - n) ≡ 2 ^ n - 1
@@ -36,3 +39,7 @@ unfolding wide
 filled-is n t q m low h hq ht e g =
     ap (wide t q m) g
     ∙ word-gt n t q 0 m (h .pos) (h .wide) (h .within) (h .top) hq ht (omega (arith, pow-mono (h .wide), pow-pos n)) (omega (arith, pow-pos n))
+
+-- the tops of a panel that fits
+pub fit-tops : (n : ℕ) (p : Panel) (t : ℕ) → Fit n p → t ≡ topsOf n (p .sdr) → Topped n t
+fit-tops n p t f e = rw e (topped n (p .sdr) (f .least) (f .most) (f .sdr))

@@ -24,8 +24,8 @@ use Rattle.fields.proofs.Tested.{tested-word}
 use Rattle.fields.proofs.WordSum.{sum-word}
 use Rattle.fields.proofs.Reader.{all-satisfied-is, added-is}
 use Rattle.sweeps.specs.Rules.{test, flag, chosen, hit, put, mark, found, answer, written, summed, new, choice, gated, changed, flipped}
-use Rattle.wide.specs.Plan.{masksOf, tagsOf, changesOf}
-use Rattle.wide.specs.Accepted.{Fit}
+use Rattle.masks.specs.Plan.{masksOf, tagsOf, changesOf}
+use Rattle.masks.specs.Plan.{Fit}
 
 module _ (n : ℕ) (p : Panel) (f : Fit n p) (care : p .care < 2 ^ responseBits) (target : p .target < 2 ^ responseBits) where
   pub chosen-is : (r : ℕ) → chosen (tagsOf p) r ≡ selected (p .key) (p .care) r

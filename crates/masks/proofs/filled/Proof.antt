@@ -1,8 +1,8 @@
 -- A syllable is not 0 exactly where it and all ones carry out of its top.
-use Rattle.wide.proofs.Words.{filled-is}
+use Rattle.masks.proofs.Words.{filled-is}
 use borrow.Author.Needs.{needs}
-use Rattle.wide.proofs.filled.Statement.{statement}
-use Rattle.wide.proofs.filled.Tie as tie
+use Rattle.masks.proofs.filled.Statement.{statement}
+use Rattle.masks.proofs.filled.Tie as tie
 
 returns : tie.Need-returns
 returns c =

@@ -1,10 +1,10 @@
 -- One, shifted up, is bit N-1.
 use mathlib.Core.Path.{ap}
 use lib.Bits.{bitOr}
-use Rattle.wide.proofs.Words.{top-is}
+use Rattle.masks.proofs.Words.{top-is}
 use borrow.Author.Needs.{needs}
-use Rattle.wide.proofs.tops_of.Statement.{statement}
-use Rattle.wide.proofs.tops_of.Tie as tie
+use Rattle.masks.proofs.tops_of.Statement.{statement}
+use Rattle.masks.proofs.tops_of.Tie as tie
 
 returns : tie.Need-returns
 returns c = ap (bitOr (c .args .sdr)) (top-is (c .args .width) (c .pre .0) (c .pre .1))

@@ -1,9 +1,9 @@
 -- The masks of a write and an add are those of the plan.
 use mathlib.Core.Path.{refl}
-use Rattle.wide.specs.Plan.{changesOf}
+use Rattle.masks.specs.Plan.{changesOf}
 use borrow.Author.Needs.{needs}
-use Rattle.wide.proofs.make_changes.Statement.{statement}
-use Rattle.wide.proofs.make_changes.Tie as tie
+use Rattle.masks.proofs.make_changes.Statement.{statement}
+use Rattle.masks.proofs.make_changes.Tie as tie
 
 returns : tie.Need-returns
 unfolding changesOf

@@ -1,6 +1,6 @@
 -- What a pulse works out of the panel once, as the code computes it. Document 01, 'One pulse'.
 -- Assumes nothing.
-use Prim.Native.Nat.{ℕ, _-_, _^_}
+use Prim.Native.Nat.{ℕ, _-_, _^_, _≤_, _<_}
 use lib.Bits.{bitAnd, bitOr, bitXor}
 use Rattle.machine.specs.declared.Panel.{Panel}
 use Rattle.fields.specs.Fields.{fields, addIn, aboveIn}
@@ -8,6 +8,16 @@ use Rattle.fields.specs.Tops.{topsOf}
 use Rattle.sweeps.specs.declared.Masks.{Masks}
 use Rattle.sweeps.specs.declared.Tags.{Tags}
 use Rattle.sweeps.specs.declared.Changes.{Changes}
+
+-- numbers 2 and 4 are not given
+pub record Fit (n : ℕ) (p : Panel) : Type 0 where
+  pub least : 0 < n
+  pub most : n ≤ 64
+  pub comp : p .comp < 2 ^ n
+  pub sdr : p .sdr < 2 ^ n
+  pub sc1 : p .sc1 < 2 ^ n
+  pub sc2 : p .sc2 < 2 ^ n
+  pub mor : p .mor < 2 ^ n
 
 -- the bits of code exact, and of code larger, where SC1 is a and SC2 is b
 abbrev pub exactBits : ℕ → ℕ → ℕ

@@ -1,11 +1,11 @@
 -- The masks of a search are those of the plan.
 use mathlib.Core.Path.{refl}
 use lib.Bits.{or-lt}
-use Rattle.wide.specs.Plan.{masksOf}
-use Rattle.wide.proofs.Checks.{fit-tops}
+use Rattle.masks.specs.Plan.{masksOf}
+use Rattle.masks.proofs.Words.{fit-tops}
 use borrow.Author.Needs.{needs}
-use Rattle.wide.proofs.make_masks.Statement.{statement}
-use Rattle.wide.proofs.make_masks.Tie as tie
+use Rattle.masks.proofs.make_masks.Statement.{statement}
+use Rattle.masks.proofs.make_masks.Tie as tie
 
 filled-requires : tie.Need-filled-requires
 filled-requires c κs =
