@@ -17,7 +17,7 @@ searchLine = record { search = true; read = false; write = false; add = false; m
 abbrev pub multiaddLine : Lines
 multiaddLine = record { search = false; read = false; write = false; add = false; multiwrite = false; multiadd = true; complement = false }
 
--- a command with these registers; SC1 and the address are 0 in every one
+-- a command: its lines, then COMP, SDR, SC2, MOR, key, care and target; SC1 and the address are 0 in every one
 abbrev pub order : Lines → ℕ → ℕ → ℕ → ℕ → ℕ → ℕ → ℕ → Command
 order lines comp sdr sc2 mor key care target =
     record {

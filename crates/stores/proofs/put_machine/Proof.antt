@@ -1,8 +1,8 @@
 use Rattle.machine.specs.Machine.{machine}
-use Rattle.parts.proofs.Storing.{wrote-machine}
+use Rattle.stores.proofs.Storing.{wrote-machine}
 use borrow.Author.Needs.{needs}
-use Rattle.parts.proofs.stores.put_machine.Statement.{statement}
-use Rattle.parts.proofs.stores.put_machine.Tie as tie
+use Rattle.stores.proofs.put_machine.Statement.{statement}
+use Rattle.stores.proofs.put_machine.Tie as tie
 
 put-requires : tie.Need-put-requires
 put-requires c κs = search needs

@@ -5,10 +5,10 @@ use native.Mathlib.Nat.{add-zero}
 use borrow.Author.Needs.{needs}
 use lib.ListN.{length, drop, getD, length-set}
 use lib.Seq.{sets}
-use Rattle.parts.proofs.Storing.{list-turn, list-none}
+use Rattle.stores.proofs.Storing.{list-turn, list-none}
 use Rattle.layout.proofs.Bytes.{one-below}
-use Rattle.parts.proofs.stores.put_bytes.Statement.{statement}
-use Rattle.parts.proofs.stores.put_bytes.Tie as tie
+use Rattle.stores.proofs.put_bytes.Statement.{statement}
+use Rattle.stores.proofs.put_bytes.Tie as tie
 
 abbrev Inv-loop : tie.InvT-loop
 Inv-loop out₀ at list i₀ out i =

@@ -6,9 +6,9 @@ use borrow.Author.Needs.{needs}
 use lib.ListN.{length, length-set}
 use lib.Seq.{sets}
 use Rattle.layout.specs.Format.{bytes}
-use Rattle.parts.proofs.Storing.{put-none, put-turn}
-use Rattle.parts.proofs.stores.put.Statement.{statement}
-use Rattle.parts.proofs.stores.put.Tie as tie
+use Rattle.stores.proofs.Storing.{put-none, put-turn}
+use Rattle.stores.proofs.put.Statement.{statement}
+use Rattle.stores.proofs.put.Tie as tie
 
 abbrev Inv-loop : tie.InvT-loop
 Inv-loop out₀ at k x y₀ j₀ out y j = (j ≤ k) × (length out ≡ length out₀) × (sets out (at + j) (bytes (k - j) y) ≡ sets out₀ at (bytes k x))

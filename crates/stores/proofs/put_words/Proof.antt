@@ -5,9 +5,9 @@ use lib.ListN.{length, drop}
 use lib.Seq.{sets}
 use borrow.Author.Needs.{needs}
 use Rattle.layout.specs.Format.{bytes, items}
-use Rattle.parts.proofs.Storing.{words-turn, words-none}
-use Rattle.parts.proofs.stores.put_words.Statement.{statement}
-use Rattle.parts.proofs.stores.put_words.Tie as tie
+use Rattle.stores.proofs.Storing.{words-turn, words-none}
+use Rattle.stores.proofs.put_words.Statement.{statement}
+use Rattle.stores.proofs.put_words.Tie as tie
 
 abbrev Inv-loop : tie.InvT-loop
 Inv-loop out₀ at words p₀ i₀ out p i =

@@ -3,10 +3,10 @@ use native.Mathlib.Omega.{arith}
 use lib.ListN.{length}
 use Rattle.plans.specs.declared.Held.{Held}
 use Rattle.layout.specs.Format.{heldJobs}
-use Rattle.parts.proofs.Storing.{stored-none, stored-one}
+use Rattle.stores.proofs.Storing.{stored-none, stored-one}
 use borrow.Author.Needs.{needs}
-use Rattle.parts.proofs.stores.put_held.Statement.{statement}
-use Rattle.parts.proofs.stores.put_held.Tie as tie
+use Rattle.stores.proofs.put_held.Statement.{statement}
+use Rattle.stores.proofs.put_held.Tie as tie
 
 enum-told : tie.Need-enum-told
 enum-told c = search needs

@@ -1,8 +1,8 @@
 use native.Mathlib.Omega.{arith}
-use Rattle.parts.proofs.Storing.{wrote-job}
+use Rattle.stores.proofs.Storing.{wrote-job}
 use borrow.Author.Needs.{needs}
-use Rattle.parts.proofs.stores.put_job.Statement.{statement}
-use Rattle.parts.proofs.stores.put_job.Tie as tie
+use Rattle.stores.proofs.put_job.Statement.{statement}
+use Rattle.stores.proofs.put_job.Tie as tie
 
 slice-aggregate-put-bytes : tie.Need-slice-aggregate-put-bytes
 slice-aggregate-put-bytes c = search needs

@@ -9,7 +9,7 @@ ghost use lib.ListN.{length, getD};
 ghost use lib.Seq.{sets};
 ghost use Rattle.machine.specs.Machine.{machine};
 ghost use Rattle.layout.specs.Format.{bytes, items, section, jobBytes, heldJobs};
-ghost use Rattle.parts.specs.Parts.{machineBytes};
+ghost use Rattle.stores.specs.Stored.{machineBytes};
 
 // k bytes of a number, low byte first.
 pub fn put(out: &mut [u8], at: usize, k: usize, x: u64) -> usize

@@ -14,7 +14,7 @@ use Rattle.plans.specs.declared.Held.{Held}
 use Rattle.plans.specs.declared.Held.the-variants.{Nothing, Holds}
 use Rattle.layout.specs.Format.{bytes, value, items, section, jobBytes, heldJobs}
 use Rattle.layout.specs.Reading.{numbers}
-use Rattle.parts.specs.Parts.{machineBytes}
+use Rattle.stores.specs.Stored.{machineBytes}
 use Rattle.layout.proofs.Bytes.{under-at, length-bytes, length-items, items-one, value-one}
 
 pub sets-append : (s t d : List ℕ) (i : ℕ) → sets d i (s ++ t) ≡ sets (sets d i s) (i + length s) t
