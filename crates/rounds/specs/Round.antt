@@ -12,7 +12,7 @@ use Rattle.machine.specs.declared.Refusal.the-variants.{Unfit, NotShown}
 use Rattle.machine.specs.declared.Check.{Check}
 use Rattle.machine.specs.Machine.{Machine, machine, responseBits}
 use Rattle.machine.specs.Resolution.{lowest}
-use Rattle.machine.specs.Refusals.{machineCheck, _else_, refuse, answerBy, changeBy, numberOf, alsoAnswers}
+use Rattle.machine.specs.Refusals.{machineCheck, _else_, refuse, answerBy, changeBy, tells}
 use Rattle.resolver.specs.declared.Resolved.{Resolved}
 use Rattle.resolver.specs.declared.Resolved.the-variants as resolved
 use Rattle.resolver.specs.Answers.{asResolved}
@@ -86,10 +86,6 @@ afterAnswer x f k v m = changeBy (answerCheck x f k m) (answeredAt x f k v m) m
 
 -- ---- each reply's number and value; "other answer fields are 0"
 
-pub record Told : Type 0 where
-  pub refusal : ℕ
-  pub also : ℕ
-
-abbrev pub told : Reply → Told
-told reply.Taken = record { refusal = 0; also = 0 }
-told (reply.Refused r) = record { refusal = numberOf r; also = alsoAnswers r }
+abbrev pub told : Reply → ℕ × ℕ
+told reply.Taken = (0, 0)
+told (reply.Refused r) = tells r

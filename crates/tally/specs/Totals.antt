@@ -33,15 +33,11 @@ zeros k v = sumBelow k (λ i. 1 - bit v i)
 abbrev pub valueOf : Span → ℕ → ℕ
 valueOf s w = number (s .width) (λ j. bit w (s .low .0 + j))
 
-abbrev pub keepValue : Bool → ℕ → List ℕ → List ℕ
-keepValue true v vs = v ∷ vs
-keepValue false v vs = vs
-
 -- A's values in the words that the criterion selects
 unfoldable pub values : Job → List ℕ → List ℕ → List ℕ
 values o [] rs = []
 values o (w ∷ ws) [] = []
-values o (w ∷ ws) (r ∷ rs) = keepValue (selected (o .key) (o .care) r) (valueOf (o .a) w) (values o ws rs)
+values o (w ∷ ws) (r ∷ rs) = pick (selected (o .key) (o .care) r) (valueOf (o .a) w ∷ values o ws rs) (values o ws rs)
 
 unfoldable pub greatestOf : List ℕ → ℕ
 greatestOf [] = 0
