@@ -1,10 +1,10 @@
 // What is printed of each outcome: one line, but for the list.
 use crate::listing;
 use commands::Outcome;
-use plans::Command;
 use machine::Panel;
 use machine::Refusal;
 use machine::WordSlice;
+use plans::Command;
 use text::output;
 ghost use mathlib.Core.Path.{_≡_};
 ghost use Rattle.machine.specs.Refusals.{numberOf};

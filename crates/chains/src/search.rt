@@ -221,22 +221,19 @@ pub fn status_of(panel: Panel, w: u64, low: u32, width: u32) -> Status
 pub fn is_wanted(code: Code, status: Status) -> bool
     ensures { λ r. ⌜ r ≡ wants code status ⌝ }
 {
-    match code {
-        Code::DontCare => true,
-        Code::Exact => match status {
-            Status::Equal => true,
-            Status::For => false,
-            Status::Against => false,
+    match status {
+        Status::Equal => or_exact(code),
+        Status::For => match code {
+            Code::DontCare => true,
+            Code::Exact => false,
+            Code::Larger => true,
+            Code::Smaller => true,
         },
-        Code::Larger => match status {
-            Status::Equal => false,
-            Status::For => true,
-            Status::Against => false,
-        },
-        Code::Smaller => match status {
-            Status::Equal => false,
-            Status::For => true,
-            Status::Against => false,
+        Status::Against => match code {
+            Code::DontCare => true,
+            Code::Exact => false,
+            Code::Larger => false,
+            Code::Smaller => false,
         },
     }
 }

@@ -6,11 +6,11 @@ pub mod host;
 pub mod images;
 pub mod working;
 
-use plans::Command;
-use plans::Held;
 use machine::Panel;
 use machine::Refusal;
 use machine::WordSlice;
+use plans::Command;
+use plans::Held;
 ghost use mathlib.Core.Path.{_≡_};
 
 // The machine but for its two lent buffers, of which it says how many entries are its own.

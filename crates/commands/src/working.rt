@@ -7,9 +7,9 @@ use crate::fine;
 use crate::host;
 use crate::refused;
 use crate::with_held;
-use plans::Held;
 use jobs::Started;
 use jobs::Stepped;
+use plans::Held;
 use tally::Total;
 use text::arguments;
 

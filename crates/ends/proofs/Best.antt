@@ -10,7 +10,8 @@ use lib.ListN.{length, getD}
 use borrow.Author.Tests.{leb-true, leb-false}
 use Rattle.machine.specs.Machine.{selected}
 use Rattle.plans.specs.declared.Job.{Job}
-use Rattle.tally.specs.Totals.{valueOf, keepValue, values, greatestOf, smallestOf}
+use Rattle.tally.specs.Totals.{valueOf, values, greatestOf, smallestOf}
+use Rattle.tally.proofs.Extremes.{keepValue}
 
 module _ (o : Job) where
   abbrev chosenAt : List ℕ → ℕ → Bool

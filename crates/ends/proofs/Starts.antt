@@ -6,7 +6,7 @@ use Rattle.machine.specs.declared.Check.{Check}
 use Rattle.machine.specs.declared.Check.the-variants as check
 use Rattle.machine.specs.declared.Refusal.the-variants.{Unfit}
 use Rattle.machine.specs.Machine.{Machine}
-use Rattle.machine.specs.Refusals.{_else_, refuse, machineCheck}
+use Rattle.machine.specs.Refusals.{_else_, refuse, machineCheck, answerBy}
 use Rattle.machine.proofs.Checks.{Sound, sound, else-passed, not-refused}
 use Rattle.plans.specs.declared.Job.{Job}
 use Rattle.plans.specs.declared.Held.{Held}
@@ -14,7 +14,7 @@ use Rattle.plans.specs.declared.Held.the-variants.{Nothing, Holds}
 use Rattle.jobs.specs.declared.Started.the-variants as started
 use Rattle.plans.specs.Fields.{badUsed}
 use Rattle.plans.specs.Places.{first}
-use Rattle.jobs.specs.Calls.{isHeld, startCheck, startedBy, startOf}
+use Rattle.jobs.specs.Calls.{isHeld, startCheck, startOf}
 use Rattle.tally.specs.Totals.{pulses}
 use Rattle.jobs.specs.Runs.{State}
 use Rattle.ends.specs.Ends.{Accepted, begun, Course, ended}
@@ -25,7 +25,7 @@ pub record Begun (m : Machine) (o : Job) : Type 0 where
   pub sound : Sound m
   pub used : badUsed (m .width) o ≡ false
 
-started-passed : (c : Check) (o : Job) → startedBy c o ≡ started.Holds o → c ≡ check.Passed
+started-passed : (c : Check) (o : Job) → answerBy c started.Refused (started.Holds o) ≡ started.Holds o → c ≡ check.Passed
 started-passed check.Passed o h = refl
 started-passed (check.Refused r) o h = cc
 
@@ -44,7 +44,7 @@ pub accepted-is : (m : Machine) (h : Held) (o q : Job) → startOf m h o ≡ sta
 unfolding startOf startCheck
 accepted-is m h o q e = go h (machineCheck m) (badUsed (m .width) o) e
   where
-    go : (h : Held) (c : Check) (t : Bool) → startedBy (c else refuse Unfit (isHeld h || t)) (first o) ≡ started.Holds q → (h ≡ Nothing) × (q ≡ first o)
+    go : (h : Held) (c : Check) (t : Bool) → answerBy (c else refuse Unfit (isHeld h || t)) started.Refused (started.Holds (first o)) ≡ started.Holds q → (h ≡ Nothing) × (q ≡ first o)
     go Nothing check.Passed false e = (refl, cc)
     go Nothing check.Passed true e = (refl, cc)
     go (Holds p) check.Passed t e = (cc, cc)

@@ -8,6 +8,7 @@ use native.Mathlib.Omega.{arith}
 use Rattle.machine.specs.declared.Check.{Check}
 use Rattle.machine.specs.declared.Check.the-variants.{Passed, Refused}
 use Rattle.machine.specs.declared.Refusal.the-variants.{Unfit}
+use Rattle.machine.specs.Refusals.{answerBy}
 use Rattle.machine.specs.Machine.{Machine}
 use Rattle.machine.specs.Pulse.{countOf, pulsed}
 use Rattle.machine.proofs.Checks.{Sound}
@@ -19,7 +20,7 @@ use Rattle.jobs.specs.declared.Stepped.{Stepped}
 use Rattle.jobs.specs.declared.Stepped.the-variants as answer
 use Rattle.plans.specs.Places.{badHeld, next}
 use Rattle.plans.specs.Commands.{command}
-use Rattle.jobs.specs.Calls.{stepCheck, steppedBy, stepOf, machineAfter, afterStep}
+use Rattle.jobs.specs.Calls.{stepCheck, stepOf, machineAfter, afterStep}
 use Rattle.jobs.specs.Runs.{State, heldAfter, stepped, steps}
 use Rattle.ends.specs.Ends.{Gives}
 use Rattle.ends.proofs.Machines.{passes}
@@ -52,7 +53,7 @@ pub given-passed : (s : State) → Gives s → stepCheck (s .machine) (s .held) 
 unfolding stepOf
 given-passed s g = go (stepCheck (s .machine) (s .held)) _ (g .answers)
   where
-    go : (c : Check) (a : Stepped) {k : Command} {n : ℕ} {h : Held} → steppedBy c a ≡ answer.Gave k n h → c ≡ Passed
+    go : (c : Check) (a : Stepped) {k : Command} {n : ℕ} {h : Held} → answerBy c answer.Refused a ≡ answer.Gave k n h → c ≡ Passed
     go Passed a e = refl
     go (Refused r) a e = cc
 
@@ -74,7 +75,7 @@ idle : (m : Machine) → stepped (on m Nothing) ≡ on m Nothing
 unfolding stepped afterStep stepOf
 idle m = go (stepCheck m Nothing)
   where
-    go : (c : Check) → on (machineAfter (steppedBy c (answer.Refused Unfit)) m) (heldAfter (steppedBy c (answer.Refused Unfit)) Nothing) ≡ on m Nothing
+    go : (c : Check) → on (machineAfter (answerBy c answer.Refused (answer.Refused Unfit)) m) (heldAfter (answerBy c answer.Refused (answer.Refused Unfit)) Nothing) ≡ on m Nothing
     go Passed = refl
     go (Refused r) = refl
 

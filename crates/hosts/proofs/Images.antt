@@ -14,15 +14,17 @@ use Rattle.machine.specs.declared.Check.{Check}
 use Rattle.machine.specs.declared.Check.the-variants as check
 use Rattle.machine.specs.declared.Refusal.the-variants.{Unfit, NoRoom}
 use Rattle.machine.specs.Machine.{machine}
-use Rattle.machine.specs.Refusals.{_else_, refuse, machineCheck}
+use Rattle.machine.specs.Refusals.{_else_, refuse, machineCheck, answerBy, changeBy}
 use Rattle.machine.proofs.Checks.{else-passed, not-refused, or-left, or-right}
 use Rattle.plans.specs.declared.Held.{Held}
 use Rattle.jobs.specs.Runs.{State}
+use Rattle.image.specs.declared.Wrote.{Wrote}
 use Rattle.image.specs.declared.Wrote.the-variants as wrote
+use Rattle.image.specs.declared.Read.{Read}
 use Rattle.image.specs.declared.Read.the-variants as read
 use Rattle.layout.specs.Format.{imageOf}
 use Rattle.layout.specs.Reading.{wordsIn, scanned, stateIn}
-use Rattle.image.specs.Calls.{badJob, writeCheck, wroteBy, writeOf, outBy, written, refuseBytes, readCheck, readBy, readOf, wordsRead, responsesRead}
+use Rattle.image.specs.Calls.{badJob, writeCheck, writeOf, written, refuseBytes, readCheck, readOf, wordsRead, responsesRead}
 use Rattle.layout.proofs.Bytes.{AreBytes, length-numbers}
 use Rattle.image.proofs.RoundTrip.{ConstantFits, Stored, plain, roundTrip}
 use Rattle.hosts.specs.Images.{Stores, Resumes}
@@ -38,6 +40,9 @@ first-of-sets xs l n e h =
     ap₂ take e (sets-eq xs l 0 (omega arith)) ∙ take-at xs (drop (0 + length xs) l) (length xs) refl
 
 -- ---- storing
+
+abbrev wroteBy : Check → ℕ → Wrote
+wroteBy c n = answerBy c wrote.Refused (wrote.Length n)
 
 wrote-passed : (c : Check) (n k : ℕ) → wroteBy c n ≡ wrote.Length k → (c ≡ check.Passed) × (k ≡ n)
 wrote-passed check.Passed n k h = (refl, cc)
@@ -65,7 +70,7 @@ stored-image {s} {image} t w =
     let room = length (w .output) in (
       record { machine = machine-passed s room (p .0); job = job-passed s room (p .0); responses = t .responses; constant = t .constant },
       w .bytes
-          ∙ ap (λ (c : Check). take (w .size) (outBy c (sets (w .output) 0 (imageOf s)) (w .output))) (p .0)
+          ∙ ap (λ (c : Check). take (w .size) (changeBy c (sets (w .output) 0 (imageOf s)) (w .output))) (p .0)
           ∙ first-of-sets (imageOf s) (w .output) (w .size) (p .1) (room-passed s room (p .0)),
     )
 
@@ -79,11 +84,14 @@ can-store s t output h =
       size = length (imageOf s);
       accepted = ap (λ (c : Check). wroteBy c (length (imageOf s))) c;
       bytes =
-          sym (ap (λ (c : Check). take (length (imageOf s)) (outBy c (sets output 0 (imageOf s)) output)) c
+          sym (ap (λ (c : Check). take (length (imageOf s)) (changeBy c (sets output 0 (imageOf s)) output)) c
           ∙ first-of-sets (imageOf s) output (length (imageOf s)) refl h);
     }
 
 -- ---- resuming
+
+abbrev readBy : Check → State → Read
+readBy c s = answerBy c read.Refused (read.Machine (s .machine .width) (length (s .machine .words)) (s .held))
 
 record Answered (s : State) (w n : ℕ) (h : Held) : Type 0 where
   pub width : w ≡ s .machine .width
@@ -103,13 +111,13 @@ long-enough c n words responses h =
 landed : (s : State) (words responses : List ℕ) (c : Check) (w n : ℕ) (h : Held) → c ≡ check.Passed → Answered s w n h
     → length (s .machine .responses) ≡ length (s .machine .words) → length (s .machine .words) ≤ length words → length (s .machine .words) ≤ length responses
     → record {
-      machine = machine w (take n (outBy c (sets words 0 (s .machine .words)) words)) (take n (outBy c (sets responses 0 (s .machine .responses)) responses));
+      machine = machine w (take n (changeBy c (sets words 0 (s .machine .words)) words)) (take n (changeBy c (sets responses 0 (s .machine .responses)) responses));
       held = h;
     }
     ≡ s
 landed s words responses c w n h e a l g k =
     ap (λ (d : Check). record {
-      machine = machine w (take n (outBy d (sets words 0 (s .machine .words)) words)) (take n (outBy d (sets responses 0 (s .machine .responses)) responses));
+      machine = machine w (take n (changeBy d (sets words 0 (s .machine .words)) words)) (take n (changeBy d (sets responses 0 (s .machine .responses)) responses));
       held = h;
     }) e
     ∙ rw (
@@ -136,7 +144,7 @@ module _ (s : State) (t : Stored s) where
       let l = long-enough (refuseBytes (scanned (imageOf s))) (wordsIn (imageOf s)) (length (r .words)) (length (r .responses)) (p .0) in
       r .stands
       ∙ ap (λ (z : State). record {
-        machine = machine (r .width) (take (r .size) (outBy c (sets (r .words) 0 (z .machine .words)) (r .words))) (take (r .size) (outBy c (sets (r .responses) 0 (z .machine .responses)) (r .responses)));
+        machine = machine (r .width) (take (r .size) (changeBy c (sets (r .words) 0 (z .machine .words)) (r .words))) (take (r .size) (changeBy c (sets (r .responses) 0 (z .machine .responses)) (r .responses)));
         held = r .held;
       }) in-image
       ∙ landed s (r .words) (r .responses) c (r .width) (r .size) (r .held) (p .0) (p .1) (plain s t .same) (omega (arith, l .0, count-in)) (omega (arith, l .1, count-in))
@@ -157,7 +165,7 @@ module _ (s : State) (t : Stored s) where
         held = s .held;
         accepted = ap (readBy c) in-image ∙ ap (λ (d : Check). readBy d s) p;
         stands = sym (ap (λ (z : State). record {
-          machine = machine (s .machine .width) (take n (outBy c (sets words 0 (z .machine .words)) words)) (take n (outBy c (sets responses 0 (z .machine .responses)) responses));
+          machine = machine (s .machine .width) (take n (changeBy c (sets words 0 (z .machine .words)) words)) (take n (changeBy c (sets responses 0 (z .machine .responses)) responses));
           held = s .held;
         }) in-image
             ∙ landed s words responses c (s .machine .width) n (s .held) p (record { width = refl; size = refl; held = refl }) (plain s t .same) h g);

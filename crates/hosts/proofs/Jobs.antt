@@ -13,7 +13,7 @@ use Rattle.machine.specs.declared.Check.{Check}
 use Rattle.machine.specs.declared.Check.the-variants as check
 use Rattle.machine.specs.declared.Refusal.the-variants.{Unfit}
 use Rattle.machine.specs.Machine.{Machine}
-use Rattle.machine.specs.Refusals.{machineCheck}
+use Rattle.machine.specs.Refusals.{machineCheck, answerBy}
 use Rattle.machine.proofs.Checks.{sound, else-passed, not-refused}
 use Rattle.plans.specs.declared.Job.{Job}
 use Rattle.plans.specs.declared.Held.{Held}
@@ -21,7 +21,7 @@ use Rattle.plans.specs.declared.Held.the-variants.{Nothing, Holds}
 use Rattle.plans.specs.declared.Command.{Command}
 use Rattle.jobs.specs.declared.Stepped.the-variants as answer
 use Rattle.plans.specs.Places.{first}
-use Rattle.jobs.specs.Calls.{badStep, stepCheck, gave, steppedBy, stepOf}
+use Rattle.jobs.specs.Calls.{badStep, stepCheck, gave, stepOf}
 use Rattle.tally.specs.Totals.{pulses}
 use Rattle.jobs.specs.Runs.{State, stepped, steps}
 use Rattle.ends.specs.Ends.{Accepted, begun, Gives, ended}
@@ -40,9 +40,9 @@ use Rattle.hosts.proofs.Typed.{first-fits, stepped-typed}
 -- a step while none is held gives nothing
 held-given : (m : Machine) (h : Held) {c : Command} {n : ℕ} {g : Held} → stepOf m h ≡ answer.Gave c n g → h ≡ Nothing → ⊥
 unfolding stepOf
-held-given m h e z = go (stepCheck m Nothing) (ap (λ (h : Held). steppedBy (stepCheck m h) (gave m h)) (sym z) ∙ e)
+held-given m h e z = go (stepCheck m Nothing) (ap (λ (h : Held). answerBy (stepCheck m h) answer.Refused (gave m h)) (sym z) ∙ e)
   where
-    go : (c : Check) {k : Command} {n : ℕ} {g : Held} → steppedBy c (answer.Refused Unfit) ≡ answer.Gave k n g → ⊥
+    go : (c : Check) {k : Command} {n : ℕ} {g : Held} → answerBy c answer.Refused (answer.Refused Unfit) ≡ answer.Gave k n g → ⊥
     go check.Passed e = let z : _≡_ {A = ℕ} 0 1 = cc in absurd (omega arith)
     go (check.Refused r) e = let z : _≡_ {A = ℕ} 0 1 = cc in absurd (omega arith)
 

@@ -18,7 +18,7 @@ use Rattle.machine.specs.declared.Refusal.the-variants.{Unfit}
 use Rattle.machine.specs.Machine.{Machine, responseBits, selected}
 use Rattle.machine.specs.Search.{matches, marked}
 use Rattle.machine.specs.Pulse.{flipped, responseAfter, pulsed}
-use Rattle.machine.specs.Refusals.{machineCheck, pulseCheck, changeBy, after}
+use Rattle.machine.specs.Refusals.{machineCheck, pulseCheck, changeBy, after, answerBy}
 use Rattle.machine.proofs.Checks.{sound, clean, else-passed, not-refused, or-right}
 use Rattle.plans.specs.declared.Held.{Held}
 use Rattle.plans.specs.declared.Held.the-variants.{Holds}
@@ -29,7 +29,7 @@ use Rattle.plans.specs.declared.Job.{Job}
 use Rattle.plans.specs.Fields.{Kind, greatest, smallest, scaledAdd, product, unknown, kindOf, badUsed, unusedZero}
 use Rattle.plans.specs.Places.{atPlace, inTableFor, inTable, badHeld}
 use Rattle.plans.specs.Commands.{look, opening, trial, second, command}
-use Rattle.jobs.specs.Calls.{stepCheck, gave, steppedBy, stepOf, machineAfter, afterStep}
+use Rattle.jobs.specs.Calls.{stepCheck, gave, stepOf, machineAfter, afterStep}
 use Rattle.jobs.specs.Runs.{State, stepped}
 use Rattle.ends.proofs.Machines.{passes, same, response-at, responses-length}
 use Rattle.ends.proofs.Starts.{accepted-is}
@@ -207,9 +207,9 @@ step-command m o x f fit h a b =
 pub step-spares : (x f : ℕ) → Fit x f → (s : State) (o : Job) → s .held ≡ Holds o → Apart o x → Apart o f → {k : Command} {c : ℕ} {h : Held}
     → stepOf (s .machine) (s .held) ≡ answer.Gave k c h → Leaves x f (s .machine) (stepped s .machine)
 unfolding stepped afterStep stepOf
-step-spares x f fit s o e a b {k} {c} {h} g = rw e (go (stepCheck (s .machine) (Holds o)) refl (ap (λ (h : Held). steppedBy (stepCheck (s .machine) h) (gave (s .machine) h)) (sym e) ∙ g))
+step-spares x f fit s o e a b {k} {c} {h} g = rw e (go (stepCheck (s .machine) (Holds o)) refl (ap (λ (h : Held). answerBy (stepCheck (s .machine) h) answer.Refused (gave (s .machine) h)) (sym e) ∙ g))
   where
-    go : (d : Check) → stepCheck (s .machine) (Holds o) ≡ d → steppedBy d (gave (s .machine) (Holds o)) ≡ answer.Gave k c h
-        → Leaves x f (s .machine) (machineAfter (steppedBy d (gave (s .machine) (Holds o))) (s .machine))
+    go : (d : Check) → stepCheck (s .machine) (Holds o) ≡ d → answerBy d answer.Refused (gave (s .machine) (Holds o)) ≡ answer.Gave k c h
+        → Leaves x f (s .machine) (machineAfter (answerBy d answer.Refused (gave (s .machine) (Holds o))) (s .machine))
     go Passed q r = step-command (s .machine) o x f fit q a b
     go (Refused w) q r = all-left x f (s .machine)

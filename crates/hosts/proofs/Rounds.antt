@@ -12,17 +12,19 @@ use Rattle.laws.proofs.Digits.{tri}
 use Rattle.machine.specs.declared.WordSlice.{WordSlice}
 use Rattle.machine.specs.declared.Found.the-variants as found
 use Rattle.machine.specs.declared.Refusal.the-variants.{Unfit}
+use Rattle.machine.specs.declared.Check.{Check}
+use Rattle.machine.specs.declared.Found.{Found}
 use Rattle.machine.specs.declared.Check.the-variants.{Passed}
 use Rattle.machine.proofs.Checks.{sound, else-passed}
 use Rattle.ends.proofs.Machines.{same}
 use Rattle.machine.specs.Machine.{Machine, machine, responseBits}
-use Rattle.machine.specs.Refusals.{refuse, machineCheck}
+use Rattle.machine.specs.Refusals.{refuse, machineCheck, answerBy}
 use Rattle.resolver.specs.declared.Resolved.the-variants as resolved
-use Rattle.resolver.specs.Answers.{answerBy}
+use Rattle.resolver.specs.Answers.{asResolved}
 use Rattle.rounds.specs.declared.Verdict.{Verdict}
 use Rattle.rounds.specs.declared.Verdict.the-variants.{Done, Faulty}
 use Rattle.rounds.specs.declared.Reply.the-variants as reply
-use Rattle.rounds.specs.Round.{badBits, bitsCheck, shown, showCheck, showOf, answerCheck, replyBy, replyOf}
+use Rattle.rounds.specs.Round.{badBits, bitsCheck, shown, showCheck, showOf, answerCheck, replyOf}
 use Rattle.rounds.specs.Handout.{responders, responder, response, NotAmong, firstOf}
 use Rattle.rounds.proofs.Passing.{Fit, acceptable, accepted}
 use Rattle.rounds.proofs.Responders.{first-of-rest}
@@ -125,7 +127,7 @@ module _ (x f : ℕ) (b : State) (fine : bitsCheck (badBits x f) (b .machine) �
         let p = responder-is x (b .machine) k r in
         let l : length vs < length (responders x (b .machine)) = omega (arith, p .0, e) in
         let i : responder x (b .machine) (length vs) ≡ k = ap (responder x (b .machine)) (sym e) ∙ p .1 in
-        ap₂ answerBy (show-accepted stands)
+        ap₂ (λ (c : Check) (w : Found). answerBy c resolved.Refused (asResolved w)) (show-accepted stands)
         (to-show ∙ first-left (responders x (b .machine)) (length vs) l ∙ ap (λ (j : ℕ). found.At (record { 0 = j })) i)
 
     -- the round ends after as many stored answers as there were responders, and not before
@@ -138,7 +140,7 @@ module _ (x f : ℕ) (b : State) (fine : bitsCheck (badBits x f) (b .machine) �
 
     pub over : length vs ≡ length (responders x (b .machine)) → showOf x (s .machine) ≡ resolved.Nothing
     unfolding showOf
-    over e = ap₂ answerBy (show-accepted stands) (to-show ∙ left-none (responders x (b .machine)) (length vs) (omega (arith, e)))
+    over e = ap₂ (λ (c : Check) (w : Found). answerBy c resolved.Refused (asResolved w)) (show-accepted stands) (to-show ∙ left-none (responders x (b .machine)) (length vs) (omega (arith, e)))
 
     -- F: of those answered, and stored
     pub faulty-has : (i : ℕ) → i < length vs → getD vs i Done ≡ Faulty → bit (response (s .machine) (responder x (b .machine) i)) f ≡ 1
@@ -171,7 +173,7 @@ module _ (x f : ℕ) (b : State) (fine : bitsCheck (badBits x f) (b .machine) �
   unfolding replyOf
   answerable {s} {image} {k} h =
       let w = standing x f b fine typed h in
-      ap replyBy (acceptable x f (record { 0 = k }) (s .machine) (bits-fine w) (w .word k refl))
+      ap (λ (c : Check). answerBy c reply.Refused reply.Taken) (acceptable x f (record { 0 = k }) (s .machine) (bits-fine w) (w .word k refl))
 
   -- and no other word's answer is taken
   pub taken-is-shown : {s : State} {image : List ℕ} {j : ℕ} {vs : List Verdict} {book : List Entry} → Hosted x f b s image (showing j) vs book

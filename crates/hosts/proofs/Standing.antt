@@ -16,15 +16,15 @@ use Rattle.machine.specs.declared.Refusal.the-variants.{Size, Width}
 use Rattle.machine.specs.declared.Check.{Check}
 use Rattle.machine.specs.declared.Check.the-variants.{Passed, Refused}
 use Rattle.machine.specs.Machine.{Machine, machine}
-use Rattle.machine.specs.Refusals.{badSize, badWidth, tooWide, _else_, refuse, refuseWord, changeBy, machineCheck}
+use Rattle.machine.specs.Refusals.{badSize, badWidth, tooWide, _else_, refuse, refuseWord, changeBy, machineCheck, answerBy}
 use Rattle.machine.specs.Resolution.{lowest}
 use Rattle.resolver.specs.declared.Resolved.the-variants as resolved
-use Rattle.resolver.specs.Answers.{answerBy}
+use Rattle.resolver.specs.Answers.{asResolved}
 use Rattle.rounds.specs.declared.Verdict.{Verdict}
 use Rattle.rounds.specs.declared.Verdict.the-variants.{Done, Faulty}
 use Rattle.rounds.specs.declared.Reply.the-variants as reply
 use Rattle.rounds.specs.Round as round
-use Rattle.rounds.specs.Round.{put, badBits, bitsCheck, shown, showCheck, showOf, answeredAt, answerCheck, replyBy, replyOf, afterAnswer}
+use Rattle.rounds.specs.Round.{put, badBits, bitsCheck, shown, showCheck, showOf, answeredAt, answerCheck, replyOf, afterAnswer}
 use Rattle.rounds.specs.Handout.{response, Answers, none-yet, one-more}
 use Rattle.rounds.proofs.Marks.{put-lt}
 use Rattle.rounds.proofs.Passing.{Fit, bits-fit}
@@ -44,20 +44,20 @@ use Rattle.image.specs.Calls.{badJob}
 
 -- ---- checks taken apart
 
-pub taken-passed : (c : Check) → replyBy c ≡ reply.Taken → c ≡ Passed
+pub taken-passed : (c : Check) → answerBy c reply.Refused reply.Taken ≡ reply.Taken → c ≡ Passed
 taken-passed Passed h = refl
 taken-passed (Refused r) h = cc
 
-refused-by : (c : Check) (r : Refusal) → replyBy c ≡ reply.Refused r → c ≡ Refused r
+refused-by : (c : Check) (r : Refusal) → answerBy c reply.Refused reply.Taken ≡ reply.Refused r → c ≡ Refused r
 refused-by Passed r h = cc
 refused-by (Refused w) r h = cc
 
-shown-by : (c : Check) (w : Found) (k : WordSlice) → answerBy c w ≡ resolved.At k → (c ≡ Passed) × (w ≡ found.At k)
+shown-by : (c : Check) (w : Found) (k : WordSlice) → answerBy c resolved.Refused (asResolved w) ≡ resolved.At k → (c ≡ Passed) × (w ≡ found.At k)
 shown-by Passed (found.At j) k h = (refl, cc)
 shown-by Passed found.Nothing k h = (refl, cc)
 shown-by (Refused r) w k h = (cc, cc)
 
-pub none-by : (c : Check) (w : Found) → answerBy c w ≡ resolved.Nothing → w ≡ found.Nothing
+pub none-by : (c : Check) (w : Found) → answerBy c resolved.Refused (asResolved w) ≡ resolved.Nothing → w ≡ found.Nothing
 none-by Passed (found.At j) h = cc
 none-by Passed found.Nothing h = refl
 none-by (Refused r) w h = cc

@@ -9,6 +9,7 @@ use lib.Dec.{ltb, eqb}
 use borrow.Author.Tests.{eqb-true, ltb-true, lt-ltb}
 use Rattle.laws.specs.Bits.{pick}
 use Rattle.laws.proofs.Bits.{and-left, and-right}
+use Rattle.machine.specs.Refusals.{answerBy}
 use Rattle.plans.specs.declared.Job.{Job}
 use Rattle.plans.specs.declared.Held.{Held}
 use Rattle.plans.specs.declared.Held.the-variants.{Nothing, Holds}
@@ -24,7 +25,7 @@ use Rattle.machine.specs.Pulse.{pulsed}
 use Rattle.plans.specs.declared.Command.{Command}
 use Rattle.jobs.specs.declared.Started.the-variants as started
 use Rattle.jobs.specs.declared.Stepped.the-variants as answer
-use Rattle.jobs.specs.Calls.{startOf, stepCheck, gave, steppedBy, stepOf}
+use Rattle.jobs.specs.Calls.{startOf, stepCheck, gave, stepOf}
 use Rattle.jobs.specs.Runs.{State, heldAfter, stepped, steps}
 use Rattle.ends.specs.Ends.{Accepted}
 use Rattle.ends.proofs.Starts.{accepted-is}
@@ -210,7 +211,7 @@ gave-held : (s : State) {k : Command} {c : ℕ} {h : Held} → stepOf (s .machin
 unfolding stepped stepOf
 gave-held s e b = go (stepCheck (s .machine) (s .held)) (s .held) b
   where
-    go : (c : Check) (h : Held) → badJob (s .machine .width) h ≡ false → badJob (s .machine .width) (heldAfter (steppedBy c (gave (s .machine) h)) h) ≡ false
+    go : (c : Check) (h : Held) → badJob (s .machine .width) h ≡ false → badJob (s .machine .width) (heldAfter (answerBy c answer.Refused (gave (s .machine) h)) h) ≡ false
     go (check.Refused r) h b = b
     go check.Passed Nothing b = b
     go check.Passed (Holds o) b = stays (s .machine .width) o b _

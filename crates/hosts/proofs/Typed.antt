@@ -14,12 +14,14 @@ use Rattle.machine.specs.declared.Lines.{Lines}
 use Rattle.machine.specs.Machine.{Machine, responseBits, selected}
 use Rattle.machine.specs.Search.{matches, marked}
 use Rattle.machine.specs.Pulse.{flipped, responseAfter, pulsed}
+use Rattle.machine.specs.Refusals.{answerBy}
 use Rattle.plans.specs.declared.Job.{Job}
 use Rattle.plans.specs.declared.Held.{Held}
 use Rattle.plans.specs.declared.Held.the-variants.{Nothing, Holds}
 use Rattle.plans.specs.Fields.{Kind, greatest, smallest, scaledAdd, product, unknown, kindOf}
 use Rattle.plans.specs.Places.{firstFor, first, moved, nextBelow, nextAbove, nextWithin, afterTrial, afterSecond, next}
-use Rattle.jobs.specs.Calls.{stepCheck, steppedBy, gave, stepOf, machineAfter, afterStep}
+use Rattle.jobs.specs.declared.Stepped.the-variants as answer
+use Rattle.jobs.specs.Calls.{stepCheck, gave, stepOf, machineAfter, afterStep}
 use Rattle.jobs.specs.Runs.{State, heldAfter, stepped}
 use Rattle.machine.specs.declared.Check.{Check}
 use Rattle.machine.specs.declared.Check.the-variants as check
@@ -117,7 +119,7 @@ unfolding stepped afterStep stepOf
 stepped-typed s t = go (stepCheck (s .machine) (s .held)) (s .held) (t .constant)
   where
     after : Check → Held → State
-    after c h = record { machine = machineAfter (steppedBy c (gave (s .machine) h)) (s .machine); held = heldAfter (steppedBy c (gave (s .machine) h)) h }
+    after c h = record { machine = machineAfter (answerBy c answer.Refused (gave (s .machine) h)) (s .machine); held = heldAfter (answerBy c answer.Refused (gave (s .machine) h)) h }
 
     go : (c : Check) (h : Held) → ConstantFits h → Typed (after c h)
     go (check.Refused r) h f = record { responses = t .responses; constant = f }

@@ -24,7 +24,7 @@ use Rattle.layout.specs.declared.Scanned.the-variants.{Sound}
 use Rattle.layout.specs.Format.{bytes, value, items, section, jobBytes, jobOf, heldJobs, imageOf}
 use Rattle.layout.specs.Reading.{Field, scan, countIs, wordCount, widthByte, wordField, responseField, jobCount, jobField, widthIn, wordsIn, jobsAt, jobsIn, heldIn, fieldsOf, scanned, numbers, stateIn}
 use Rattle.image.specs.Calls.{badJob}
-use Rattle.parts.specs.Parts.{machineBytes}
+use Rattle.stores.specs.Stored.{machineBytes}
 use Rattle.layout.proofs.Bytes.{Under, AreBytes, under-more, length-bytes, length-items, value-bytes, length-job, job-back}
 use Rattle.image.proofs.WriteCalls.{whole, length-machine, same-size}
 use Rattle.layout.proofs.Bytes.{zero-picks, other-picks}

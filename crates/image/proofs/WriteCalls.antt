@@ -22,9 +22,9 @@ use Rattle.jobs.specs.Runs.{State}
 use Rattle.image.specs.declared.Wrote.the-variants as wrote
 use Rattle.layout.specs.Format.{bytes, items, section, jobBytes, heldJobs, imageOf}
 use Rattle.image.specs.Calls.{badJob, writeCheck, writeOf, written}
-use Rattle.parts.specs.Parts.{machineBytes}
+use Rattle.stores.specs.Stored.{machineBytes}
 use Rattle.layout.proofs.Bytes.{length-bytes, length-items, length-job}
-use Rattle.parts.proofs.Storing.{sets-append}
+use Rattle.stores.proofs.Storing.{sets-append}
 
 -- ---- how long an image is
 

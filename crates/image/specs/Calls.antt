@@ -12,7 +12,7 @@ use Rattle.machine.specs.declared.Check.{Check}
 use Rattle.machine.specs.declared.Check.the-variants as check
 use Rattle.machine.specs.declared.Refusal.the-variants.{Unfit, Malformed, NoRoom}
 use Rattle.machine.specs.Machine.{Machine}
-use Rattle.machine.specs.Refusals.{_else_, refuse, machineCheck}
+use Rattle.machine.specs.Refusals.{_else_, refuse, machineCheck, answerBy, changeBy}
 use Rattle.plans.specs.declared.Held.{Held}
 use Rattle.plans.specs.declared.Held.the-variants.{Nothing, Holds}
 use Rattle.plans.specs.Places.{badHeld}
@@ -38,20 +38,12 @@ unfoldable pub writeCheck : State → ℕ → Check
 writeCheck s room =
     machineCheck (s .machine) else refuse Unfit (badJob (s .machine .width) (s .held)) else refuse NoRoom (ltb room (length (imageOf s)))
 
-abbrev pub wroteBy : Check → ℕ → Wrote
-wroteBy check.Passed n = wrote.Length n
-wroteBy (check.Refused r) n = wrote.Refused r
-
 unfoldable pub writeOf : State → ℕ → Wrote
-writeOf s room = wroteBy (writeCheck s room) (length (imageOf s))
+writeOf s room = answerBy (writeCheck s room) wrote.Refused (wrote.Length (length (imageOf s)))
 
 -- "writing [changes] only the image's own bytes"
-abbrev pub outBy : Check → List ℕ → List ℕ → List ℕ
-outBy check.Passed new old = new
-outBy (check.Refused r) new old = old
-
 unfoldable pub written : State → List ℕ → List ℕ
-written s out = outBy (writeCheck s (length out)) (sets out 0 (imageOf s)) out
+written s out = changeBy (writeCheck s (length out)) (sets out 0 (imageOf s)) out
 
 -- ---- reading
 
@@ -64,16 +56,14 @@ refuseBytes (Broken at) = check.Refused (Malformed at)
 unfoldable pub readCheck : List ℕ → ℕ → ℕ → Check
 readCheck bs words responses = refuseBytes (scanned bs) else refuse NoRoom (ltb words (wordsIn bs) || ltb responses (wordsIn bs))
 
-abbrev pub readBy : Check → State → Read
-readBy check.Passed s = read.Machine (s .machine .width) (length (s .machine .words)) (s .held)
-readBy (check.Refused r) s = read.Refused r
-
 unfoldable pub readOf : List ℕ → ℕ → ℕ → Read
-readOf bs words responses = readBy (readCheck bs words responses) (stateIn bs)
+readOf bs words responses =
+    let s = stateIn bs in
+    answerBy (readCheck bs words responses) read.Refused (read.Machine (s .machine .width) (length (s .machine .words)) (s .held))
 
 -- "Reading changes only the first n of each destination"
 unfoldable pub wordsRead : List ℕ → List ℕ → List ℕ → List ℕ
-wordsRead bs ws rs = outBy (readCheck bs (length ws) (length rs)) (sets ws 0 (stateIn bs .machine .words)) ws
+wordsRead bs ws rs = changeBy (readCheck bs (length ws) (length rs)) (sets ws 0 (stateIn bs .machine .words)) ws
 
 unfoldable pub responsesRead : List ℕ → List ℕ → List ℕ → List ℕ
-responsesRead bs ws rs = outBy (readCheck bs (length ws) (length rs)) (sets rs 0 (stateIn bs .machine .responses)) rs
+responsesRead bs ws rs = changeBy (readCheck bs (length ws) (length rs)) (sets rs 0 (stateIn bs .machine .responses)) rs

@@ -4,14 +4,15 @@ use crate::Wrote;
 use machine::Check;
 use machine::Refusal;
 use machine::Response;
-use parts::stores;
 use plans::Held;
+use stores::put_held;
+use stores::put_machine;
 ghost use mathlib.Core.Path.{_≡_};
 ghost use Prim.Native.Nat.{_+_, _*_, _≤_};
 ghost use lib.ListN.{length};
 ghost use Rattle.layout.specs.Format.{heldJobs};
 ghost use Rattle.image.specs.Calls.{badJob, writeCheck, writeOf, written};
-ghost use Rattle.parts.specs.Parts.{state};
+ghost use Rattle.jobs.specs.Runs.{state};
 
 // 8: the held job as after its start; none is fine.
 fn bad_job(width: u32, held: Held) -> bool
@@ -59,8 +60,8 @@ pub fn write(words: &[u64], responses: &[Response], width: u32, held: Held, out:
     match check {
         Check::Refused(why) => Wrote::Refused(why),
         Check::Passed => {
-            let at = stores::put_machine(out, words, responses, width);
-            Wrote::Length(stores::put_held(out, at, held))
+            let at = put_machine(out, words, responses, width);
+            Wrote::Length(put_held(out, at, held))
         }
     }
 }

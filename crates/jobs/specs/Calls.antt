@@ -4,11 +4,10 @@
 use Prim.Native.Nat.{ℕ}
 use mathlib.Core.Bool.{Bool, true, false, _||_}
 use Rattle.machine.specs.declared.Check.{Check}
-use Rattle.machine.specs.declared.Check.the-variants as check
 use Rattle.machine.specs.declared.Refusal.the-variants.{Unfit}
 use Rattle.machine.specs.Machine.{Machine}
 use Rattle.machine.specs.Pulse.{countOf, pulsed}
-use Rattle.machine.specs.Refusals.{_else_, refuse, machineCheck}
+use Rattle.machine.specs.Refusals.{_else_, refuse, machineCheck, answerBy}
 use Rattle.plans.specs.declared.Job.{Job}
 use Rattle.plans.specs.declared.Held.{Held}
 use Rattle.plans.specs.declared.Held.the-variants.{Nothing, Holds}
@@ -33,12 +32,8 @@ isHeld (Holds o) = true
 unfoldable pub startCheck : Machine → Held → Job → Check
 startCheck m h o = machineCheck m else refuse Unfit (isHeld h || badUsed (m .width) o)
 
-abbrev pub startedBy : Check → Job → Started
-startedBy check.Passed o = started.Holds o
-startedBy (check.Refused r) o = started.Refused r
-
 unfoldable pub startOf : Machine → Held → Job → Started
-startOf m h o = startedBy (startCheck m h o) (first o)
+startOf m h o = answerBy (startCheck m h o) started.Refused (started.Holds (first o))
 
 -- ---- step
 
@@ -50,12 +45,8 @@ gave m (Holds o) =
     let c = countOf m (k .panel) (k .lines) in
     stepped.Gave k c (next o c)
 
-abbrev pub steppedBy : Check → Stepped → Stepped
-steppedBy check.Passed a = a
-steppedBy (check.Refused r) a = stepped.Refused r
-
 unfoldable pub stepOf : Machine → Held → Stepped
-stepOf m h = steppedBy (stepCheck m h) (gave m h)
+stepOf m h = answerBy (stepCheck m h) stepped.Refused (gave m h)
 
 -- "and the machine after it is that command's pulse"; on a refusal "nothing lent changes"
 abbrev pub machineAfter : Stepped → Machine → Machine

@@ -1,7 +1,8 @@
 -- Document 01, 'Jobs': a job's steps one after the other, where nothing but its steps changes the machine.
 -- Assumes nothing.
 use Prim.Native.Nat.{ℕ, zero, suc}
-use Rattle.machine.specs.Machine.{Machine}
+use mathlib.Core.List.{List}
+use Rattle.machine.specs.Machine.{Machine, machine}
 use Rattle.plans.specs.declared.Held.{Held}
 use Rattle.plans.specs.declared.Held.the-variants.{Nothing, Holds}
 use Rattle.jobs.specs.declared.Stepped.{Stepped}
@@ -12,6 +13,10 @@ use Rattle.jobs.specs.Calls.{stepOf, afterStep}
 pub record State : Type 0 where
   pub machine : Machine
   pub held : Held
+
+-- of this width, with these words and responses lent, and this job held
+abbrev pub state : ℕ → List ℕ → List ℕ → Held → State
+state n ws rs h = record { machine = machine n ws rs; held = h }
 
 abbrev pub heldAfter : Stepped → Held → Held
 heldAfter (answer.Gave k c h) old = h

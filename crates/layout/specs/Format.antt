@@ -6,6 +6,7 @@ use lib.ListN.{length, drop, getD}
 use Rattle.machine.specs.Machine.{Machine}
 use Rattle.plans.specs.declared.Span.{Span}
 use Rattle.plans.specs.declared.Job.{Job}
+use Rattle.plans.specs.Fields.{job}
 use Rattle.plans.specs.declared.Held.{Held}
 use Rattle.plans.specs.declared.Held.the-variants.{Nothing, Holds}
 use Rattle.jobs.specs.Runs.{State}
@@ -35,20 +36,8 @@ spanAt bs k = record { low = record { 0 = byte bs k }; width = byte bs (k + 1) }
 -- the job that a record of 22 bytes says
 abbrev pub jobOf : List ℕ → Job
 jobOf bs =
-    record {
-      kind = byte bs 0;
-      key = byte bs 1;
-      care = byte bs 2;
-      x = byte bs 3;
-      y = byte bs 4;
-      a = spanAt bs 5;
-      b = spanAt bs 7;
-      p = spanAt bs 9;
-      phase = byte bs 11;
-      i = byte bs 12;
-      j = byte bs 13;
-      c = value (drop 14 bs);
-    }
+    job (byte bs 0) (byte bs 1) (byte bs 2) (byte bs 3) (byte bs 4) (spanAt bs 5) (spanAt bs 7) (spanAt bs 9)
+    (byte bs 11) (byte bs 12) (byte bs 13) (value (drop 14 bs))
 
 -- "each after its count (4 bytes, low byte first)"
 unfoldable pub items : {A : Type 0} → (A → List ℕ) → List A → List ℕ

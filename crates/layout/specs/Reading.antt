@@ -13,7 +13,7 @@ use Rattle.machine.specs.Refusals.{badWidth, tooWide}
 use Rattle.plans.specs.declared.Held.{Held}
 use Rattle.plans.specs.declared.Held.the-variants.{Nothing, Holds}
 use Rattle.plans.specs.Places.{badHeld}
-use Rattle.jobs.specs.Runs.{State}
+use Rattle.jobs.specs.Runs.{State, state}
 use Rattle.layout.specs.declared.Scanned.{Scanned}
 use Rattle.layout.specs.declared.Scanned.the-variants.{Sound, Broken}
 use Rattle.layout.specs.Format.{value, byte, jobOf}
@@ -92,7 +92,4 @@ heldIn bs = pick (eqb (jobsIn bs) 0) Nothing (Holds (jobOf (take 22 (drop (jobsA
 
 unfoldable pub stateIn : List ℕ → State
 stateIn bs =
-    record {
-      machine = record { width = widthIn bs; words = numbers 8 (wordsIn bs) (drop 9 bs); responses = numbers 1 (wordsIn bs) (drop (13 + 8 * wordsIn bs) bs) };
-      held = heldIn bs;
-    }
+    state (widthIn bs) (numbers 8 (wordsIn bs) (drop 9 bs)) (numbers 1 (wordsIn bs) (drop (13 + 8 * wordsIn bs) bs)) (heldIn bs)

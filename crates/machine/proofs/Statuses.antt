@@ -158,8 +158,13 @@ module _ (e : ℕ → Code) (w c : ℕ → ℕ) where
 
 -- ---- what the bottom wants is what the numbers are asked
 
+not-minding : (t : Status) → wants DontCare t ≡ true
+not-minding Equal = refl
+not-minding For = refl
+not-minding Against = refl
+
 wants-asks : (d : Code) (u v : ℕ) → wants d (seen d (compared u v)) ≡ asks d u v
-wants-asks DontCare u v = refl
+wants-asks DontCare u v = not-minding (seen DontCare (compared u v))
 wants-asks Exact u v =
     ⊎-elim (λ h. rw (lower u v h, ne-eqb u v (λ e. omega arith)))
     (⊎-elim (λ h. rw (level u v h, eq-eqb u v h)) (λ h. rw (higher u v h, ne-eqb u v (λ e. omega arith)))) (tri u v)
@@ -171,7 +176,7 @@ wants-asks Smaller u v =
     (⊎-elim (λ h. rw (level u v h, le-ltb u v (omega arith))) (λ h. rw (higher u v h, le-ltb u v (omega arith)))) (tri u v)
 
 carried-wants : (d e : Code) (u v : ℕ) → Carries d e → wants e (seen d (compared u v)) ≡ asks e u v
-carried-wants d e u v (inl h) = rw h
+carried-wants d e u v (inl h) = rw h (not-minding (seen d (compared u v)))
 carried-wants d e u v (inr h) = rw h (wants-asks d u v)
 
 -- ---- one code

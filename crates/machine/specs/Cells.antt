@@ -6,31 +6,25 @@ use Rattle.laws.specs.Bits.{bit}
 use Rattle.laws.specs.Lists.{all}
 use Rattle.machine.specs.declared.Panel.{Panel}
 use Rattle.machine.specs.declared.Code.{Code}
-use Rattle.machine.specs.declared.Code.the-variants.{DontCare, Exact, Larger, Smaller}
 use Rattle.machine.specs.declared.Status.{Status}
 use Rattle.machine.specs.declared.Status.the-variants.{Equal, For, Against}
 use Rattle.machine.specs.Machine.{Syllable, syllables, selected}
-use Rattle.machine.specs.Search.{codeAt, eachCode}
+use Rattle.machine.specs.Search.{codeAt, byCode, eachCode}
+
+-- word and COMP differ or not: what word 1 with COMP 0 settles, and word 0 with COMP 1
+abbrev pub settled : Status → Status → ℕ → ℕ → Status
+settled more less zero zero = Equal
+settled more less zero (suc c) = less
+settled more less (suc w) zero = more
+settled more less (suc w) (suc c) = Equal
 
 -- One cell: its code, the word's bit, COMP's bit, the status from above.
--- "A settled status stays." "A don't-care bit passes it on. Exact: a difference settles against. Larger: word 1 with COMP 0 settles for, word 0
--- with COMP 1 against; smaller is the mirror."
+-- "A don't-care bit passes it on. Exact: a difference settles against. Larger: word 1 with COMP 0 settles for, word 0 with COMP 1 against;
+-- smaller is the mirror. A settled status stays."
 abbrev pub cell : Code → ℕ → ℕ → Status → Status
+cell d w c Equal = byCode d Equal (settled Against Against w c) (settled For Against w c) (settled Against For w c)
 cell d w c For = For
 cell d w c Against = Against
-cell DontCare w c Equal = Equal
-cell Exact zero zero Equal = Equal
-cell Exact zero (suc c) Equal = Against
-cell Exact (suc w) zero Equal = Against
-cell Exact (suc w) (suc c) Equal = Equal
-cell Larger zero zero Equal = Equal
-cell Larger zero (suc c) Equal = Against
-cell Larger (suc w) zero Equal = For
-cell Larger (suc w) (suc c) Equal = Equal
-cell Smaller zero zero Equal = Equal
-cell Smaller zero (suc c) Equal = For
-cell Smaller (suc w) zero Equal = Against
-cell Smaller (suc w) (suc c) Equal = Equal
 
 -- "From top bit to bottom a syllable passes on one of three statuses: equal so far, settled for, settled against."
 unfoldable pub passed : (ℕ → Status → Status) → ℕ → Status → Status
@@ -43,16 +37,9 @@ statusOf p w y = passed (λ j. cell (codeAt p (y .low + j)) (bit w (y .low + j))
 
 -- "Exact wants "equal" at the bottom, larger and smaller want "settled for"."
 abbrev pub wants : Code → Status → Bool
-wants DontCare t = true
-wants Exact Equal = true
-wants Exact For = false
-wants Exact Against = false
-wants Larger Equal = false
-wants Larger For = true
-wants Larger Against = false
-wants Smaller Equal = false
-wants Smaller For = true
-wants Smaller Against = false
+wants d Equal = byCode d true true false false
+wants d For = byCode d true false true true
+wants d Against = byCode d true false false false
 
 unfoldable pub accepted : Panel → ℕ → Syllable → Bool
 accepted p w y = eachCode p y (λ d. wants d (statusOf p w y))

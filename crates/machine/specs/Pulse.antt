@@ -10,7 +10,7 @@ use Rattle.laws.specs.Bits.{bit, number, pick, under}
 use Rattle.laws.specs.Lists.{zip, count}
 use Rattle.machine.specs.declared.Panel.{Panel}
 use Rattle.machine.specs.declared.Lines.{Lines}
-use Rattle.machine.specs.Machine.{Machine, responseBits, Syllable, syllables, over, selected}
+use Rattle.machine.specs.Machine.{Machine, machine, responseBits, Syllable, syllables, over, selected}
 use Rattle.machine.specs.Search.{matches, marked}
 
 -- "In the addressed word, or in all selected words, each bit under a one of MOR takes COMP's bit."
@@ -72,8 +72,6 @@ readOf m p l = pick (l .read) (getD (m .words) (p .address .0) 0) 0
 -- the machine after a pulse that is not turned down
 unfoldable pub pulsed : Machine → Panel → Lines → Machine
 pulsed m p l =
-    record {
-      width = m .width;
-      words = zip (wordAfter (m .width) p l) 0 (m .words) (m .responses);
-      responses = zip (responseAfter (m .width) p l) 0 (m .words) (m .responses);
-    }
+    machine (m .width)
+    (zip (wordAfter (m .width) p l) 0 (m .words) (m .responses))
+    (zip (responseAfter (m .width) p l) 0 (m .words) (m .responses))

@@ -93,15 +93,16 @@ pulseCheck m p l =
 
 -- ---- what a pulse answers, and what stands in the machine afterwards
 
-abbrev pub answerBy : Check → Answer → Answer
-answerBy check.Passed a = a
-answerBy (check.Refused r) a = answer.Refused r
+-- a refusal's answer, or where the check passes the call's own
+abbrev pub answerBy : {A : Type 0} → Check → (Refusal → A) → A → A
+answerBy check.Passed turned done = done
+answerBy (check.Refused r) turned done = turned r
 
 unfoldable pub answerOf : Machine → Panel → Lines → Answer
-answerOf m p l = answerBy (pulseCheck m p l) (answer.Done (countOf m p l) (readOf m p l))
+answerOf m p l = answerBy (pulseCheck m p l) answer.Refused (answer.Done (countOf m p l) (readOf m p l))
 
 -- "Nothing lent changes"
-abbrev pub changeBy : Check → Machine → Machine → Machine
+abbrev pub changeBy : {A : Type 0} → Check → A → A → A
 changeBy check.Passed new old = new
 changeBy (check.Refused r) new old = old
 
@@ -110,31 +111,25 @@ after m p l = changeBy (pulseCheck m p l) (pulsed m p l) m
 
 -- ---- each answer's number and values; "other answer fields are 0"
 
+-- the table's number of each refusal, and what it also answers
+abbrev pub tells : Refusal → ℕ × ℕ
+tells Size = (1, 0)
+tells Width = (2, 0)
+tells (WordTooWide k) = (3, k .0)
+tells PanelTooWide = (4, 0)
+tells TwoCodes = (5, 0)
+tells WrongLines = (6, 0)
+tells NoSuchWord = (7, 0)
+tells Unfit = (8, 0)
+tells (Malformed place) = (9, place)
+tells NoRoom = (10, 0)
+tells NotShown = (11, 0)
+
 abbrev pub numberOf : Refusal → ℕ
-numberOf Size = 1
-numberOf Width = 2
-numberOf (WordTooWide k) = 3
-numberOf PanelTooWide = 4
-numberOf TwoCodes = 5
-numberOf WrongLines = 6
-numberOf NoSuchWord = 7
-numberOf Unfit = 8
-numberOf (Malformed place) = 9
-numberOf NoRoom = 10
-numberOf NotShown = 11
+numberOf r = tells r .0
 
 abbrev pub alsoAnswers : Refusal → ℕ
-alsoAnswers Size = 0
-alsoAnswers Width = 0
-alsoAnswers (WordTooWide k) = k .0
-alsoAnswers PanelTooWide = 0
-alsoAnswers TwoCodes = 0
-alsoAnswers WrongLines = 0
-alsoAnswers NoSuchWord = 0
-alsoAnswers Unfit = 0
-alsoAnswers (Malformed place) = place
-alsoAnswers NoRoom = 0
-alsoAnswers NotShown = 0
+alsoAnswers r = tells r .1
 
 -- the refusal's number, 0 for none, and what it also answers; the count and the word read
 pub record Told : Type 0 where

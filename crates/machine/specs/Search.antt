@@ -20,48 +20,40 @@ code (suc a) (suc b) = Smaller
 abbrev pub codeAt : Panel → ℕ → Code
 codeAt p i = code (bit (p .sc1) i) (bit (p .sc2) i)
 
+-- what is said of each code, in this order
+abbrev pub byCode : {A : Type 0} → Code → A → A → A → A → A
+byCode DontCare d e l s = d
+byCode Exact d e l s = e
+byCode Larger d e l s = l
+byCode Smaller d e l s = s
+
 -- a test holds of the code of each bit of a syllable
 abbrev pub eachCode : Panel → Syllable → (Code → Bool) → Bool
 eachCode p y test = every (y .width) (λ j. test (codeAt p (y .low + j)))
 
 -- "In one syllable all bits other than don't-care ones carry one code."
 abbrev pub orExact : Code → Bool
-orExact DontCare = true
-orExact Exact = true
-orExact Larger = false
-orExact Smaller = false
+orExact d = byCode d true true false false
 
 abbrev pub orLarger : Code → Bool
-orLarger DontCare = true
-orLarger Exact = false
-orLarger Larger = true
-orLarger Smaller = false
+orLarger d = byCode d true false true false
 
 abbrev pub orSmaller : Code → Bool
-orSmaller DontCare = true
-orSmaller Exact = false
-orSmaller Larger = false
-orSmaller Smaller = true
+orSmaller d = byCode d true false false true
 
 unfoldable pub oneCode : Panel → Syllable → Bool
 oneCode p y = eachCode p y orExact || (eachCode p y orLarger || eachCode p y orSmaller)
 
 -- "Read word and COMP over that syllable with don't-care bits taken as 0 .."
 abbrev pub cared : Code → ℕ → ℕ
-cared DontCare b = 0
-cared Exact b = b
-cared Larger b = b
-cared Smaller b = b
+cared d b = byCode d 0 b b b
 
 abbrev pub readOver : Panel → Syllable → ℕ → ℕ
 readOver p y x = over y (λ i. cared (codeAt p i) (bit x i))
 
 -- ".. the word's number must be equal to, larger than or smaller than COMP's."
 abbrev pub asks : Code → ℕ → ℕ → Bool
-asks DontCare w c = true
-asks Exact w c = eqb w c
-asks Larger w c = ltb c w
-asks Smaller w c = ltb w c
+asks d w c = byCode d true (eqb w c) (ltb c w) (ltb w c)
 
 -- "A syllable of don't-cares is satisfied."
 unfoldable pub satisfied : Panel → ℕ → Syllable → Bool

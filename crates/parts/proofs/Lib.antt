@@ -1,3 +1,2 @@
--- laws of stores and of fields
-pub mod Storing
+-- laws of fields
 pub mod Scans

@@ -1,4 +1,4 @@
--- The image's parts, as the code stores and looks at them one after the other.
+-- The image's parts, as the code looks at them one after the other.
 -- Assumes nothing.
 use Prim.Native.Nat.{ℕ, _+_, _*_}
 use mathlib.Core.Bool.{Bool, true, false}
@@ -6,21 +6,10 @@ use mathlib.Core.List.{List, [], _∷_, _++_}
 use lib.Dec.{ltb}
 use lib.ListN.{length, take, drop, replicate}
 use Rattle.laws.specs.Bits.{pick}
-use Rattle.machine.specs.Machine.{Machine, machine}
-use Rattle.plans.specs.declared.Held.{Held}
-use Rattle.jobs.specs.Runs.{State}
 use Rattle.layout.specs.declared.Scanned.{Scanned}
 use Rattle.layout.specs.declared.Scanned.the-variants.{Sound, Broken}
-use Rattle.layout.specs.Format.{bytes, value, section}
+use Rattle.layout.specs.Format.{value}
 use Rattle.layout.specs.Reading.{Field, countIs, responseField, jobCount, jobField}
-
--- of this width, with these words and responses lent, and this job held
-abbrev pub state : ℕ → List ℕ → List ℕ → Held → State
-state n ws rs h = record { machine = machine n ws rs; held = h }
-
--- the three sections before the job
-unfoldable pub machineBytes : Machine → List ℕ
-machineBytes m = section (bytes 1) (m .width ∷ []) ++ (section (bytes 8) (m .words) ++ section (bytes 1) (m .responses))
 
 -- the first field of these bytes is whole, and right
 unfoldable pub holds : Field → List ℕ → Bool

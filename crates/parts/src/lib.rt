@@ -1,4 +1,3 @@
-// The image's parts, one after the other: stored, and looked at.
+// The image's parts, looked at one after the other.
 // Document 01: 'The image' and number 9.
 pub mod fields;
-pub mod stores;

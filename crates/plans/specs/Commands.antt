@@ -17,31 +17,21 @@ searchLine = record { search = true; read = false; write = false; add = false; m
 abbrev pub multiaddLine : Lines
 multiaddLine = record { search = false; read = false; write = false; add = false; multiwrite = false; multiadd = true; complement = false }
 
+-- a command: its lines, then COMP, SDR, SC2, MOR, key, care and target; SC1 and the address are 0 in every one
+abbrev pub order : Lines → ℕ → ℕ → ℕ → ℕ → ℕ → ℕ → ℕ → Command
+order lines comp sdr sc2 mor key care target =
+    record {
+      panel = record { comp = comp; sdr = sdr; sc1 = 0; sc2 = sc2; mor = mor; key = key; care = care; target = target; address = record { 0 = 0 } };
+      lines = lines;
+    }
+
 -- search the bits of the mask exact as in comp, under (key, care), target bit t; all other bits are don't care
 abbrev pub look : ℕ → ℕ → ℕ → ℕ → ℕ → Command
-look key care t mask comp =
-    record {
-      panel = record { comp = comp; sdr = 0; sc1 = 0; sc2 = mask; mor = 0; key = key; care = care; target = 2 ^ t; address = record { 0 = 0 } };
-      lines = searchLine;
-    }
+look key care t mask comp = order searchLine comp 0 mask 0 key care (2 ^ t)
 
 -- multiadd v into P under response bit y: "Adds set MOR to P's bits and SDR to P's top bit."
 abbrev pub plus : ℕ → Span → ℕ → Command
-plus y s v =
-    record {
-      panel = record {
-        comp = v * 2 ^ s .low .0;
-        sdr = 2 ^ (s .low .0 + s .width - 1);
-        sc1 = 0;
-        sc2 = 0;
-        mor = 2 ^ (s .width + s .low .0) - 2 ^ s .low .0;
-        key = 2 ^ y;
-        care = 2 ^ y;
-        target = 0;
-        address = record { 0 = 0 };
-      };
-      lines = multiaddLine;
-    }
+plus y s v = order multiaddLine (v * 2 ^ s .low .0) (2 ^ (s .low .0 + s .width - 1)) 0 (2 ^ (s .width + s .low .0) - 2 ^ s .low .0) (2 ^ y) (2 ^ y) 0
 
 -- bit i of a syllable, at its place in the word
 abbrev pub bitOf : Span → ℕ → ℕ

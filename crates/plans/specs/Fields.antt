@@ -9,6 +9,11 @@ use Rattle.machine.specs.Machine.{responseBits}
 use Rattle.plans.specs.declared.Span.{Span}
 use Rattle.plans.specs.declared.Job.{Job}
 
+-- a job's fields, in the image's order
+abbrev pub job : ℕ → ℕ → ℕ → ℕ → ℕ → Span → Span → Span → ℕ → ℕ → ℕ → ℕ → Job
+job kind key care x y a b p phase i j c =
+    record { kind = kind; key = key; care = care; x = x; y = y; a = a; b = b; p = p; phase = phase; i = i; j = j; c = c }
+
 -- "kind (1 to 4 as in the table)"
 pub data Kind : Type 0 where
   greatest : Kind

@@ -13,7 +13,7 @@ use Rattle.plans.specs.declared.Span.{Span}
 use Rattle.plans.specs.declared.Job.{Job}
 use Rattle.plans.specs.declared.Held.{Held}
 use Rattle.plans.specs.declared.Held.the-variants.{Nothing, Holds}
-use Rattle.plans.specs.Fields.{Kind, greatest, smallest, scaledAdd, product, unknown, kindOf, badUsed, unusedZero}
+use Rattle.plans.specs.Fields.{job, Kind, greatest, smallest, scaledAdd, product, unknown, kindOf, badUsed, unusedZero}
 
 -- ---- "A place outside the job's table is malformed."
 
@@ -61,10 +61,10 @@ none = record { low = record { 0 = 0 }; width = 0 }
 
 -- "In phase 0, i is a-1 .. the others begin at phase 1 with i and j 0."
 abbrev pub firstFor : Kind → Job → Job
-firstFor greatest o = record { kind = o .kind; key = o .key; care = o .care; x = o .x; y = o .y; a = o .a; b = none; p = none; phase = 0; i = o .a .width - 1; j = 0; c = 0 }
-firstFor smallest o = record { kind = o .kind; key = o .key; care = o .care; x = o .x; y = o .y; a = o .a; b = none; p = none; phase = 0; i = o .a .width - 1; j = 0; c = 0 }
-firstFor scaledAdd o = record { kind = o .kind; key = o .key; care = o .care; x = 0; y = o .y; a = o .a; b = none; p = o .p; phase = 1; i = 0; j = 0; c = o .c }
-firstFor product o = record { kind = o .kind; key = o .key; care = o .care; x = 0; y = o .y; a = o .a; b = o .b; p = o .p; phase = 1; i = 0; j = 0; c = 0 }
+firstFor greatest o = job (o .kind) (o .key) (o .care) (o .x) (o .y) (o .a) none none 0 (o .a .width - 1) 0 0
+firstFor smallest o = job (o .kind) (o .key) (o .care) (o .x) (o .y) (o .a) none none 0 (o .a .width - 1) 0 0
+firstFor scaledAdd o = job (o .kind) (o .key) (o .care) 0 (o .y) (o .a) none (o .p) 1 0 0 (o .c)
+firstFor product o = job (o .kind) (o .key) (o .care) 0 (o .y) (o .a) (o .b) (o .p) 1 0 0 0
 firstFor unknown o = o
 
 unfoldable pub first : Job → Job
@@ -78,8 +78,7 @@ atFirst o = eqb (o .phase) (first o .phase) && eqb (o .i) (first o .i) && eqb (o
 
 -- the same job at another place
 abbrev pub moved : Job → ℕ → ℕ → ℕ → Job
-moved o phase i j =
-    record { kind = o .kind; key = o .key; care = o .care; x = o .x; y = o .y; a = o .a; b = o .b; p = o .p; phase = phase; i = i; j = j; c = o .c }
+moved o phase i j = job (o .kind) (o .key) (o .care) (o .x) (o .y) (o .a) (o .b) (o .p) phase i j (o .c)
 
 -- extremes: "for each place from the top". "A job that has given its last pulse is no longer held".
 abbrev pub nextBelow : Job → ℕ → Held

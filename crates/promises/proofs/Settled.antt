@@ -41,9 +41,9 @@ use Rattle.rounds.proofs.show.Reads as show-reads
 use Rattle.rounds.proofs.answer as answer
 use Rattle.rounds.proofs.answer.Kinds as answer-kinds
 use Rattle.rounds.proofs.answer.Reads as answer-reads
-use Rattle.rounds.proofs.round as round
-use Rattle.rounds.proofs.round.Kinds as round-kinds
-use Rattle.rounds.proofs.round.Reads as round-reads
+use Rattle.handout.proofs.round as round
+use Rattle.handout.proofs.round.Kinds as round-kinds
+use Rattle.handout.proofs.round.Reads as round-reads
 use Rattle.jobs.proofs.start as start
 use Rattle.jobs.proofs.start.Kinds as start-kinds
 use Rattle.jobs.proofs.start.Reads as start-reads

@@ -3,11 +3,9 @@
 use Prim.Native.Nat.{ℕ}
 use Rattle.machine.specs.declared.Found.{Found}
 use Rattle.machine.specs.declared.Found.the-variants as found
-use Rattle.machine.specs.declared.Check.{Check}
-use Rattle.machine.specs.declared.Check.the-variants as check
 use Rattle.machine.specs.Machine.{Machine}
 use Rattle.machine.specs.Resolution.{resolved}
-use Rattle.machine.specs.Refusals.{machineCheck, numberOf, alsoAnswers}
+use Rattle.machine.specs.Refusals.{machineCheck, answerBy, numberOf, alsoAnswers}
 use Rattle.resolver.specs.declared.Resolved.{Resolved}
 use Rattle.resolver.specs.declared.Resolved.the-variants.{At, Nothing, Refused}
 
@@ -15,14 +13,9 @@ abbrev pub asResolved : Found → Resolved
 asResolved (found.At k) = At k
 asResolved found.Nothing = Nothing
 
--- the refusal that the checks found, else what was found
-abbrev pub answerBy : Check → Found → Resolved
-answerBy (check.Refused r) f = Refused r
-answerBy check.Passed f = asResolved f
-
 -- "The lowest-numbered selected word, or none exactly if no word is selected."; "resolution for 1 to 3"
 unfoldable pub resolution : ℕ → ℕ → Machine → Resolved
-resolution key care m = answerBy (machineCheck m) (resolved key care m)
+resolution key care m = answerBy (machineCheck m) Refused (asResolved (resolved key care m))
 
 -- ---- each answer's number and values; "other answer fields are 0"
 

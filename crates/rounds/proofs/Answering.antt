@@ -1,25 +1,22 @@
--- What an answer does: to the bits of its word's response, to the checks (nothing), to the round's end (nothing) and to its counts.
+-- What an answer does: to the bits of its word's response, and to the checks (nothing).
 -- Assumes nothing.
-use Prim.Native.Nat.{ℕ, _+_, _<_}
-use mathlib.Core.Path.{_≡_, refl, sym, ap, _∙_}
-use mathlib.Core.Bool.{Bool, true, false, not, _&&_}
+use Prim.Native.Nat.{ℕ, _<_}
+use mathlib.Core.Path.{_≡_, sym, ap, _∙_}
+use mathlib.Core.Bool.{Bool, false}
 use mathlib.Core.List.{List}
 use native.Mathlib.Omega.{arith}
 use lib.Dec.{eqb}
-use lib.ListN.{length, getD, set}
-use Rattle.laws.specs.Bits.{bit, pick, digit}
+use lib.ListN.{length}
+use Rattle.laws.specs.Bits.{bit}
 use Rattle.machine.specs.declared.Refusal.the-variants.{Size, Width, Unfit}
 use Rattle.machine.specs.Machine.{machine, responseBits}
 use Rattle.machine.specs.Resolution.{lowest}
 use Rattle.machine.specs.Refusals.{badSize, badWidth, tooWide, machineCheck, _else_, refuse, refuseWord}
-use Rattle.resolver.proofs.Lowest.{LowestAt}
 use Rattle.rounds.specs.declared.Verdict.{Verdict}
 use Rattle.rounds.specs.declared.Verdict.the-variants.{Done, Faulty}
 use Rattle.rounds.specs.Round.{has, put, answered, bitsCheck}
-use Rattle.rounds.specs.Whole.{saysDone, verdictBy, each, tally, worked, isDone, isFaulty}
 use Rattle.rounds.proofs.Marks.{put-here, put-else}
 use Rattle.rounds.proofs.Passing.{Fit}
-use Rattle.rounds.proofs.Lists.{each-at, tally-at}
 
 -- X is 0 afterwards
 pub answered-mark : (x f : ℕ) (v : Verdict) (r : ℕ) → Fit x f → bit (answered x f v r) x ≡ 0
@@ -46,39 +43,3 @@ pub same-checks : (t : Bool) (n : ℕ) (ws rs qs : List ℕ) → length qs ≡ l
 unfolding bitsCheck machineCheck
 same-checks t n ws rs qs e =
     ap (λ (k : ℕ). (refuse Size (badSize (length ws) k) else refuse Width (badWidth n) else refuseWord (lowest (tooWide n) 0 ws)) else refuse Unfit t) e
-
--- ---- one answer in the list
-
-pub and-false : (a b : Bool) → a ≡ false → (a && b) ≡ false
-and-false true b h = absurd (let z : _≡_ {A = ℕ} 0 1 = cc in omega arith)
-and-false false b h = refl
-
-and-true : (a b : Bool) → a ≡ true → (a && b) ≡ b
-and-true true b h = refl
-and-true false b h = absurd (let z : _≡_ {A = ℕ} 0 1 = cc in omega arith)
-
--- word i's response after an answer
-abbrev pub stored : ℕ → ℕ → List ℕ → ℕ → Bool → ℕ
-stored x f rs i t = answered x f (verdictBy t) (getD rs i 0)
-
-module _ (x f : ℕ) (vs rs : List ℕ) (i : ℕ) (t : Bool) (h : Fit x f) (l : LowestAt (has x) rs i) (says : t ≡ saysDone vs i) where
-  off : has x (stored x f rs i t) ≡ false
-  off = lost x f (verdictBy t) (getD rs i 0) h
-
-  -- the end of the round stays what it is
-  pub answer-whole : each (worked x f vs) 0 (set rs i (stored x f rs i t)) ≡ each (worked x f vs) 0 rs
-  answer-whole =
-      each-at i (stored x f rs i t) rs (worked x f vs)
-      (ap (λ (b : Bool). pick b (answered x f (verdictBy (saysDone vs i)) (stored x f rs i t)) (stored x f rs i t)) off
-      ∙ ap (λ (b : Bool). stored x f rs i b) says
-      ∙ sym (ap (λ (b : Bool). pick b (stored x f rs i (saysDone vs i)) (getD rs i 0)) (l .passes)))
-
-  pub answer-done : tally (isDone x vs) 0 (set rs i (stored x f rs i t)) + digit t ≡ tally (isDone x vs) 0 rs
-  answer-done =
-      tally-at i (stored x f rs i t) rs (isDone x vs) t (l .within) (and-false (has x (stored x f rs i t)) (saysDone vs i) off)
-      (and-true (has x (getD rs i 0)) (saysDone vs i) (l .passes) ∙ sym says)
-
-  pub answer-faulty : tally (isFaulty x vs) 0 (set rs i (stored x f rs i t)) + digit (not t) ≡ tally (isFaulty x vs) 0 rs
-  answer-faulty =
-      tally-at i (stored x f rs i t) rs (isFaulty x vs) (not t) (l .within) (and-false (has x (stored x f rs i t)) (not (saysDone vs i)) off)
-      (and-true (has x (getD rs i 0)) (not (saysDone vs i)) (l .passes) ∙ ap not (sym says))

@@ -16,15 +16,12 @@ use Rattle.machine.specs.declared.Refusal.the-variants.{Unfit, NotShown}
 use Rattle.machine.specs.declared.Check.{Check}
 use Rattle.machine.specs.declared.Check.the-variants.{Passed, Refused}
 use Rattle.machine.specs.Machine.{Machine, responseBits}
-use Rattle.machine.specs.Refusals.{machineCheck, _else_, refuse, changeBy}
+use Rattle.machine.specs.Refusals.{machineCheck, _else_, refuse, answerBy, changeBy}
 use Rattle.resolver.proofs.Lowest.{LowestAt, found-exactly}
 use Rattle.resolver.proofs.Sizes.{first-passed, rest-passed, not-refused, neither-left, neither-right}
 use Rattle.rounds.specs.declared.Verdict.{Verdict}
 use Rattle.rounds.specs.declared.Reply.the-variants as reply
-use Rattle.rounds.specs.declared.Report.{Report}
-use Rattle.rounds.specs.declared.Report.the-variants as report
-use Rattle.rounds.specs.Round.{has, shown, answered, answeredAt, noBit, badBits, otherThan, bitsCheck, answerCheck, replyBy, replyOf, afterAnswer}
-use Rattle.rounds.specs.Whole.{roundCheck, ended, afterEnded, reportBy, reportOf, afterRound}
+use Rattle.rounds.specs.Round.{has, shown, answered, answeredAt, noBit, badBits, otherThan, bitsCheck, answerCheck, replyOf, afterAnswer}
 
 -- ---- a chain of two, as the code takes it apart: c is the first check's result, t the test of the second
 module _ (c e : Check) (r : Refusal) (t : Bool) (h : c ≡ e) where
@@ -108,7 +105,7 @@ module _ (x f : ℕ) (k : WordSlice) (v : Verdict) (m : Machine) (c : Check) (h 
   pub answer-refused : (r : Refusal) → c ≡ Refused r → (reply.Refused r ≡ replyOf x f k m) × (m .responses ≡ afterAnswer x f k v m .responses)
   unfolding replyOf afterAnswer
   answer-refused r g = (
-    ap replyBy (sym g ∙ h),
+    ap (λ (d : Check). answerBy d reply.Refused reply.Taken) (sym g ∙ h),
     ap (λ (d : Check). changeBy d (answeredAt x f k v m) m .responses) (sym g ∙ h),
   )
 
@@ -116,23 +113,6 @@ module _ (x f : ℕ) (k : WordSlice) (v : Verdict) (m : Machine) (c : Check) (h 
       → (reply.Taken ≡ replyOf x f k m) × (rs ≡ afterAnswer x f k v m .responses)
   unfolding replyOf afterAnswer
   answer-taken b rs g e s = (
-    ap replyBy (sym g ∙ h),
+    ap (λ (d : Check). answerBy d reply.Refused reply.Taken) (sym g ∙ h),
     s ∙ ap (set (m .responses) (k .0)) e ∙ ap (λ (d : Check). changeBy d (answeredAt x f k v m) m .responses) (sym g ∙ h),
-  )
-
--- a whole round
-module _ (x f : ℕ) (vs : List ℕ) (m : Machine) (c : Check) (h : c ≡ roundCheck x f m) where
-  pub round-refused : (r : Refusal) → c ≡ Refused r → (report.Refused r ≡ reportOf x f vs m) × (m .responses ≡ afterRound x f vs m .responses)
-  unfolding reportOf afterRound
-  round-refused r g = (
-    ap (λ (d : Check). reportBy d (ended x vs m)) (sym g ∙ h),
-    ap (λ (d : Check). changeBy d (afterEnded x f vs m) m .responses) (sym g ∙ h),
-  )
-
-  pub round-ended : (a : Report) (rs : List ℕ) → c ≡ Passed → a ≡ ended x vs m → rs ≡ afterEnded x f vs m .responses
-      → (a ≡ reportOf x f vs m) × (rs ≡ afterRound x f vs m .responses)
-  unfolding reportOf afterRound
-  round-ended a rs g e k = (
-    e ∙ ap (λ (d : Check). reportBy d (ended x vs m)) (sym g ∙ h),
-    k ∙ ap (λ (d : Check). changeBy d (afterEnded x f vs m) m .responses) (sym g ∙ h),
   )

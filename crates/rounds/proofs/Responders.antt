@@ -1,18 +1,17 @@
--- The list of responders: its first is the lowest, an answer takes the first off, and each is counted once in a round.
+-- The list of responders: its first is the lowest, and an answer takes the first off.
 -- Assumes nothing.
-use Prim.Native.Nat.{ℕ, zero, suc, _+_, _<_}
-use mathlib.Core.Path.{_≡_, refl, ap, _∙_}
-use mathlib.Core.Bool.{Bool, true, false, not, _&&_}
+use Prim.Native.Nat.{ℕ, zero, suc, _<_}
+use mathlib.Core.Path.{_≡_, refl, ap}
+use mathlib.Core.Bool.{Bool, true, false}
 use mathlib.Core.List.{List, [], _∷_}
 use native.Mathlib.Omega.{arith}
 use lib.ListN.{length, getD, drop, set}
-use Rattle.laws.specs.Bits.{pick, digit}
+use Rattle.laws.specs.Bits.{pick}
 use Rattle.machine.specs.declared.WordSlice.{WordSlice}
 use Rattle.machine.specs.declared.Found.the-variants.{At}
 use Rattle.machine.specs.Resolution.{lowest}
 use Rattle.resolver.proofs.Lowest.{LowestAt}
 use Rattle.rounds.specs.Round.{has}
-use Rattle.rounds.specs.Whole.{saysDone, tally, isDone, isFaulty}
 use Rattle.rounds.specs.Handout.{numbersWith, firstOf}
 
 -- the lowest word is the first responder
@@ -43,19 +42,3 @@ first-of-rest k zero (j ∷ ks) h =
     let s : _≡_ {A = WordSlice} (record { 0 = j }) k = cc in (omega arith, ap (λ (w : WordSlice). w .0) s)
 first-of-rest k (suc n) [] h = absurd (let z : _≡_ {A = ℕ} 0 1 = cc in omega arith)
 first-of-rest k (suc n) (j ∷ ks) h = let r = first-of-rest k n ks h in (omega (arith, r .0), r .1)
-
--- a round counts each responder once
-once : (a b : Bool) (m n k : ℕ) → m + n ≡ k → (digit (a && b) + m) + (digit (a && not b) + n) ≡ digit a + k
-once true true m n k h = omega arith
-once true false m n k h = omega arith
-once false b m n k h = omega arith
-
-pub each-once : (x k : ℕ) (vs rs : List ℕ) → tally (isDone x vs) k rs + tally (isFaulty x vs) k rs ≡ length (numbersWith x k rs)
-unfolding tally numbersWith
-each-once x k vs [] = refl
-each-once x k vs (r ∷ rs) =
-    once (has x r) (saysDone vs k) (tally (isDone x vs) (suc k) rs) (tally (isFaulty x vs) (suc k) rs) _ (each-once x (suc k) vs rs) ∙ go (has x r)
-  where
-    go : (b : Bool) → digit b + length (numbersWith x (suc k) rs) ≡ length (pick b (k ∷ numbersWith x (suc k) rs) (numbersWith x (suc k) rs))
-    go true = omega arith
-    go false = omega arith

@@ -1,4 +1,3 @@
--- document 01 on the hand-out round: show and answer, and a whole round
+-- document 01 on the hand-out round: show and answer
 pub mod Round
-pub mod Whole
 pub mod Handout

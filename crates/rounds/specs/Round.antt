@@ -10,12 +10,12 @@ use Rattle.machine.specs.declared.Found.{Found}
 use Rattle.machine.specs.declared.Found.the-variants.{At, Nothing}
 use Rattle.machine.specs.declared.Refusal.the-variants.{Unfit, NotShown}
 use Rattle.machine.specs.declared.Check.{Check}
-use Rattle.machine.specs.declared.Check.the-variants as check
 use Rattle.machine.specs.Machine.{Machine, machine, responseBits}
 use Rattle.machine.specs.Resolution.{lowest}
-use Rattle.machine.specs.Refusals.{machineCheck, _else_, refuse, changeBy, numberOf, alsoAnswers}
+use Rattle.machine.specs.Refusals.{machineCheck, _else_, refuse, answerBy, changeBy, tells}
 use Rattle.resolver.specs.declared.Resolved.{Resolved}
-use Rattle.resolver.specs.Answers.{answerBy}
+use Rattle.resolver.specs.declared.Resolved.the-variants as resolved
+use Rattle.resolver.specs.Answers.{asResolved}
 use Rattle.rounds.specs.declared.Verdict.{Verdict}
 use Rattle.rounds.specs.declared.Verdict.the-variants.{Done, Faulty}
 use Rattle.rounds.specs.declared.Reply.{Reply}
@@ -75,14 +75,10 @@ answerCheck x f k m = bitsCheck (badBits x f) m else refuse NotShown (otherThan 
 -- ---- what the calls answer, and what stands in the machine afterwards
 
 unfoldable pub showOf : ℕ → Machine → Resolved
-showOf x m = answerBy (showCheck x m) (shown x m)
-
-abbrev pub replyBy : Check → Reply
-replyBy check.Passed = reply.Taken
-replyBy (check.Refused r) = reply.Refused r
+showOf x m = answerBy (showCheck x m) resolved.Refused (asResolved (shown x m))
 
 unfoldable pub replyOf : ℕ → ℕ → WordSlice → Machine → Reply
-replyOf x f k m = replyBy (answerCheck x f k m)
+replyOf x f k m = answerBy (answerCheck x f k m) reply.Refused reply.Taken
 
 -- "Nothing lent changes" if the answer is turned down
 unfoldable pub afterAnswer : ℕ → ℕ → WordSlice → Verdict → Machine → Machine
@@ -90,10 +86,6 @@ afterAnswer x f k v m = changeBy (answerCheck x f k m) (answeredAt x f k v m) m
 
 -- ---- each reply's number and value; "other answer fields are 0"
 
-pub record Told : Type 0 where
-  pub refusal : ℕ
-  pub also : ℕ
-
-abbrev pub told : Reply → Told
-told reply.Taken = record { refusal = 0; also = 0 }
-told (reply.Refused r) = record { refusal = numberOf r; also = alsoAnswers r }
+abbrev pub told : Reply → ℕ × ℕ
+told reply.Taken = (0, 0)
+told (reply.Refused r) = tells r

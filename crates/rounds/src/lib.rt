@@ -1,4 +1,4 @@
-// Document 01, 'The hand-out round': show, answer, and the host's loop that works a whole round.
+// Document 01, 'The hand-out round': show and answer.
 // None of them looks at a held job. Show changes nothing; an answer changes one word's X and, if faulty, its F.
 use machine::Check;
 use machine::Found;
@@ -7,14 +7,11 @@ use machine::Response;
 use machine::WordSlice;
 use resolver::Resolved;
 ghost use mathlib.Core.Path.{_≡_};
-ghost use Prim.Native.Nat.{_≤_, _<_};
+ghost use Prim.Native.Nat.{_<_};
 ghost use lib.ListN.{length, set};
-ghost use Rattle.laws.specs.Bits.{digit};
-ghost use Rattle.machine.specs.declared.Check.the-variants.{Passed};
 ghost use Rattle.machine.specs.Machine.{machine, responseBits};
 ghost use Rattle.machine.specs.Resolution.{lowest};
 ghost use Rattle.rounds.specs.Round.{has, answered, noBit, badBits, otherThan, bitsCheck, answerCheck, showOf, replyOf, afterAnswer};
-ghost use Rattle.rounds.specs.Whole.{saysDone, verdictBy, isTaken, roundCheck, ended, afterEnded, reportOf, afterRound};
 
 // What the host says of a word that it was shown.
 pub enum Verdict {
@@ -28,12 +25,6 @@ pub enum Reply {
     Refused(Refusal),
 }
 
-// What a whole round comes to: how many words were answered done and how many faulty, or the refusal.
-pub enum Report {
-    Ended { done: usize, faulty: usize },
-    Refused(Refusal),
-}
-
 // ---- the checks, in the table's order
 
 // 8: "a response bit above 7".
@@ -44,7 +35,7 @@ fn no_bit(x: u32) -> bool
 }
 
 // 8, for an answer.
-fn bad_bits(x: u32, f: u32) -> bool
+pub fn bad_bits(x: u32, f: u32) -> bool
     ensures { λ r. ⌜ r ≡ badBits x f ⌝ }
 {
     no_bit(x) | no_bit(f) | (x == f)
@@ -61,7 +52,7 @@ fn other_than(word: WordSlice, found: Found) -> bool
 }
 
 // 1 to 3, then 8 if the bits that the call is given are unfit.
-fn check_bits(words: &[u64], responses: &[Response], width: u32, unfit: bool) -> Check
+pub fn check_bits(words: &[u64], responses: &[Response], width: u32, unfit: bool) -> Check
     ensures { λ r. ⌜ r ≡ bitsCheck unfit (machine width (now (words .entry)) (now (responses .entry))) ⌝ }
 {
     let check = machine::check_machine(words, responses, width);
@@ -164,87 +155,5 @@ pub fn answer(
             put(responses, at, response);
             Reply::Taken
         }
-    }
-}
-
-// ---- the host's loop
-
-// What the list says of a word; a word that it doesn't reach is not called done.
-fn says_done(verdicts: &[u8], word: WordSlice) -> bool
-    ensures { λ r. ⌜ r ≡ saysDone (now (verdicts .entry)) (word .0) ⌝ }
-{
-    let at = word.0;
-    if at < verdicts.len() {
-        verdicts[at] == 1
-    } else {
-        false
-    }
-}
-
-fn verdict_by(done: bool) -> Verdict
-    ensures { λ r. ⌜ r ≡ verdictBy done ⌝ }
-{
-    if done { Verdict::Done } else { Verdict::Faulty }
-}
-
-fn is_taken(reply: Reply) -> bool
-    ensures { λ r. ⌜ r ≡ isTaken reply ⌝ }
-{
-    match reply {
-        Reply::Taken => true,
-        Reply::Refused(_) => false,
-    }
-}
-
-fn one_if(test: bool) -> usize
-    ensures { λ r. ⌜ (r ≡ digit test) × (r ≤ 1) ⌝ }
-{
-    if test { 1 } else { 0 }
-}
-
-// "The answer none ends the round." No answer is turned down, since each is for the word just shown.
-fn work(
-    words: &[u64],
-    responses: &mut [Response],
-    width: u32,
-    x: u32,
-    f: u32,
-    verdicts: &[u8],
-) -> Report
-    requires { ⌜ roundCheck x f (machine width (now words) (now responses)) ≡ Passed ⌝ }
-    ensures { λ r. ⌜ r ≡ ended x (now (verdicts .entry)) (machine width (now (words .entry)) (now (responses .entry))) ⌝ }
-    ensures { λ _. ⌜ now (responses .exit) ≡ afterEnded x f (now (verdicts .entry)) (machine width (now (words .entry)) (now (responses .entry))) .responses ⌝ }
-{
-    let mut done: usize = 0;
-    let mut faulty: usize = 0;
-    let mut taken = true;
-    while taken {
-        let Resolved::At(word) = show(words, responses, width, x) else {
-            return Report::Ended { done, faulty };
-        };
-        let sound = says_done(verdicts, word);
-        taken = is_taken(answer(words, responses, width, x, f, word, verdict_by(sound)));
-        done += one_if(sound);
-        faulty += one_if(!sound);
-    }
-    Report::Ended { done, faulty }
-}
-
-// A whole round on lent buffers. Only the words that have X are answered, each once, the lowest first.
-pub fn round(
-    words: &[u64],
-    responses: &mut [Response],
-    width: u32,
-    x: u32,
-    f: u32,
-    verdicts: &[u8],
-) -> Report
-    ensures { λ r. ⌜ r ≡ reportOf x f (now (verdicts .entry)) (machine width (now (words .entry)) (now (responses .entry))) ⌝ }
-    ensures { λ _. ⌜ now (responses .exit) ≡ afterRound x f (now (verdicts .entry)) (machine width (now (words .entry)) (now (responses .entry))) .responses ⌝ }
-{
-    let check = check_bits(words, responses, width, bad_bits(x, f));
-    match check {
-        Check::Refused(why) => Report::Refused(why),
-        Check::Passed => work(words, responses, width, x, f, verdicts),
     }
 }

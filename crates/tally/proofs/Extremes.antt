@@ -15,7 +15,11 @@ use Rattle.laws.proofs.Bits.{shifted, number-is}
 use Rattle.machine.specs.Machine.{selected}
 use Rattle.plans.specs.declared.Span.{Span}
 use Rattle.plans.specs.declared.Job.{Job}
-use Rattle.tally.specs.Totals.{valueOf, keepValue, values, greatestOf, smallestOf}
+use Rattle.tally.specs.Totals.{valueOf, values, greatestOf, smallestOf}
+
+-- a value more, or not
+abbrev pub keepValue : Bool → ℕ → List ℕ → List ℕ
+keepValue chosen v vs = pick chosen (v ∷ vs) vs
 
 -- a syllable is what stands above its lowest bit, modulo 2 to its width
 pub value-is : (s : Span) (w : ℕ) → w / 2 ^ s .low .0 % 2 ^ s .width ≡ valueOf s w

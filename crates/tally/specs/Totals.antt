@@ -6,10 +6,9 @@ use mathlib.Core.List.{List, [], _∷_}
 use lib.Dec.{eqb, ltb}
 use Rattle.laws.specs.Bits.{bit, number, pick, digit}
 use Rattle.machine.specs.declared.Check.{Check}
-use Rattle.machine.specs.declared.Check.the-variants as check
 use Rattle.machine.specs.declared.Refusal.the-variants.{Unfit}
 use Rattle.machine.specs.Machine.{Machine, selected}
-use Rattle.machine.specs.Refusals.{_else_, refuse}
+use Rattle.machine.specs.Refusals.{_else_, refuse, answerBy}
 use Rattle.plans.specs.declared.Span.{Span}
 use Rattle.plans.specs.declared.Job.{Job}
 use Rattle.plans.specs.declared.Held.{Held}
@@ -34,15 +33,11 @@ zeros k v = sumBelow k (λ i. 1 - bit v i)
 abbrev pub valueOf : Span → ℕ → ℕ
 valueOf s w = number (s .width) (λ j. bit w (s .low .0 + j))
 
-abbrev pub keepValue : Bool → ℕ → List ℕ → List ℕ
-keepValue true v vs = v ∷ vs
-keepValue false v vs = vs
-
 -- A's values in the words that the criterion selects
 unfoldable pub values : Job → List ℕ → List ℕ → List ℕ
 values o [] rs = []
 values o (w ∷ ws) [] = []
-values o (w ∷ ws) (r ∷ rs) = keepValue (selected (o .key) (o .care) r) (valueOf (o .a) w) (values o ws rs)
+values o (w ∷ ws) (r ∷ rs) = pick (selected (o .key) (o .care) r) (valueOf (o .a) w ∷ values o ws rs) (values o ws rs)
 
 unfoldable pub greatestOf : List ℕ → ℕ
 greatestOf [] = 0
@@ -79,9 +74,5 @@ abbrev pub heldPulses : Machine → Held → ℕ
 heldPulses m Nothing = 0
 heldPulses m (Holds o) = pulses m o
 
-abbrev pub totalBy : Check → ℕ → Total
-totalBy check.Passed k = total.Pulses k
-totalBy (check.Refused r) k = total.Refused r
-
 unfoldable pub totalOf : Machine → Held → Total
-totalOf m h = totalBy (totalCheck m h) (heldPulses m h)
+totalOf m h = answerBy (totalCheck m h) total.Refused (total.Pulses (heldPulses m h))

@@ -35,7 +35,7 @@ module _ (m : Machine) (p : Panel) (l : Lines) (c : Check) (e : c ≡ pulseCheck
   unfolding answerOf after readOf
   done k x ws rs g hk hx hw hr =
       let f = sym (sym e ∙ g) in (
-        ap₂ answer.Done hk hx ∙ ap (λ (d : Check). answerBy d (answer.Done (countOf m p l) (readOf m p l))) f,
+        ap₂ answer.Done hk hx ∙ ap (λ (d : Check). answerBy d answer.Refused (answer.Done (countOf m p l) (readOf m p l))) f,
         (hw ∙ ap (λ (d : Check). changeBy d (pulsed m p l) m .words) f, hr ∙ ap (λ (d : Check). changeBy d (pulsed m p l) m .responses) f),
       )
 
@@ -44,6 +44,6 @@ module _ (m : Machine) (p : Panel) (l : Lines) (c : Check) (e : c ≡ pulseCheck
   unfolding answerOf after
   turned-down r g =
       let f = sym (sym e ∙ g) in (
-        ap (λ (d : Check). answerBy d (answer.Done (countOf m p l) (readOf m p l))) f,
+        ap (λ (d : Check). answerBy d answer.Refused (answer.Done (countOf m p l) (readOf m p l))) f,
         (ap (λ (d : Check). changeBy d (pulsed m p l) m .words) f, ap (λ (d : Check). changeBy d (pulsed m p l) m .responses) f),
       )

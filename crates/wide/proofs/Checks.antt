@@ -29,7 +29,9 @@ use Rattle.fields.proofs.Shape.{same-fields, topped}
 use Rattle.fields.proofs.Codes.{clash, one-is}
 use Rattle.fields.proofs.Reader.{one-code-is}
 use Rattle.sweeps.specs.Along.{union}
-use Rattle.wide.specs.Accepted.{Fit, Accepted, restCheck}
+use Rattle.masks.specs.Plan.{Fit}
+use Rattle.masks.proofs.Words.{fit-tops}
+use Rattle.wide.specs.Accepted.{Accepted, restCheck}
 
 -- ---- chains of checks
 
@@ -127,10 +129,6 @@ fit n p pos most h =
       sc2 = leb-false _ _ (or-r (tooWide n (p .comp) || tooWide n (p .sdr) || tooWide n (p .sc1)) (tooWide n (p .sc2)) e);
       mor = leb-false _ _ (or-r (tooWide n (p .comp) || tooWide n (p .sdr) || tooWide n (p .sc1) || tooWide n (p .sc2)) (tooWide n (p .mor)) h);
     }
-
--- the tops of a panel that fits
-pub fit-tops : (n : ℕ) (p : Panel) (t : ℕ) → Fit n p → t ≡ topsOf n (p .sdr) → Topped n t
-fit-tops n p t f e = rw e (topped n (p .sdr) (f .least) (f .most) (f .sdr))
 
 -- ---- 5 and 7
 

@@ -1,7 +1,7 @@
 -- What holds once nothing is turned down, and the words' change apart from the addressed word's.
 -- Document 01, 'Numbers given when a call is turned down', 1 to 7; 'One pulse', multiwrite and multiadd.
 -- Assumes nothing.
-use Prim.Native.Nat.{ℕ, _^_, _≤_, _<_}
+use Prim.Native.Nat.{ℕ, _^_, _<_}
 use mathlib.Core.Path.{_≡_}
 use mathlib.Core.Bool.{true, _&&_, _||_}
 use mathlib.Core.List.{List}
@@ -15,16 +15,7 @@ use Rattle.machine.specs.Pulse.{written, added, change}
 use Rattle.machine.specs.Refusals.{badPanel, badCodes, refuse, _else_, commandCheck}
 use Rattle.fields.specs.Fields.{fields}
 use Rattle.fields.specs.Codes.{oneIn}
-
--- 2 and 4
-pub record Fit (n : ℕ) (p : Panel) : Type 0 where
-  pub least : 0 < n
-  pub most : n ≤ 64
-  pub comp : p .comp < 2 ^ n
-  pub sdr : p .sdr < 2 ^ n
-  pub sc1 : p .sc1 < 2 ^ n
-  pub sc2 : p .sc2 < 2 ^ n
-  pub mor : p .mor < 2 ^ n
+use Rattle.masks.specs.Plan.{Fit}
 
 -- 1 to 5 and 7
 pub record Accepted (n : ℕ) (p : Panel) (l : Lines) (ws rs : List ℕ) : Type 0 where

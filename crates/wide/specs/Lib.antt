@@ -1,3 +1,2 @@
 -- what the word-wide machine's inner contracts cite
-pub mod Plan
 pub mod Accepted

@@ -10,110 +10,19 @@ ghost use Rattle.machine.specs.Machine.{machine};
 ghost use Rattle.machine.specs.Pulse.{counts, wordAfter, responseAfter, countOf, pulsed};
 ghost use Rattle.machine.specs.Resolution.{lowest};
 ghost use Rattle.machine.specs.Refusals.{tooWide, badCodes, refuseWord, machineCheck, pulseCheck, answerOf, after};
-ghost use Rattle.fields.specs.Fields.{fields, addIn, aboveIn};
-ghost use Rattle.fields.specs.Tops.{topsOf, Topped};
-ghost use Rattle.wide.specs.Plan.{masksOf, tagsOf, changesOf};
-ghost use Rattle.wide.specs.Accepted.{Fit, Accepted, restCheck, multiAfter};
+ghost use Rattle.masks.specs.Plan.{Fit};
+ghost use Rattle.wide.specs.Accepted.{Accepted, restCheck, multiAfter};
 use machine::Answer;
 use machine::Check;
 use machine::Lines;
 use machine::Panel;
 use machine::Refusal;
 use machine::Response;
-use sweeps::Changes;
-use sweeps::Masks;
-use sweeps::Tags;
-
-// ---- whole words, all syllables at once
-
-// The bits of a word.
-fn mask_of(width: u32) -> u64
-    requires { ⌜ (0 < width) × (width ≤ 64) ⌝ }
-    ensures { λ r. ⌜ r ≡ 2 ^ width - 1 ⌝ }
-{
-    u64::MAX >> (64 - width)
-}
-
-// The top bit of each syllable: "Bit N-1 always starts a syllable (house)."
-fn tops_of(width: u32, sdr: u64) -> u64
-    requires { ⌜ (0 < width) × (width ≤ 64) ⌝ }
-    ensures { λ r. ⌜ r ≡ topsOf width sdr ⌝ }
-{
-    sdr | (1u64 << (width - 1))
-}
-
-// Each syllable of w plus that of a, modulo 2 to its width.
-fn add_word(width: u32, t: u64, w: u64, a: u64) -> u64
-    requires { ⌜ (0 < width) × (width ≤ 64) ⌝ }
-    ensures { λ r. ⌜ r ≡ addIn (fields width t) w a 0 ⌝ }
-{
-    let low = std::num::wrapping_add_u64(w & !t, a & !t);
-    (low ^ ((w ^ a) & t)) & mask_of(width)
-}
-
-// A one at the top of each syllable that is not 0.
-fn filled(width: u32, t: u64, q: u64) -> u64
-    requires { ⌜ Topped width t ⌝ }
-    requires { ⌜ q < 2 ^ width ⌝ }
-    ensures { λ r. ⌜ r ≡ aboveIn (fields width t) q 0 0 ⌝ }
-{
-    let u = mask_of(width);
-    let low = std::num::wrapping_add_u64(q & !t, u & !t);
-    ((q & u) | ((q | u) & low)) & t
-}
-
-// ---- what a pulse works out of the panel once
-
-fn make_tags(panel: Panel) -> Tags
-    ensures { λ r. ⌜ r ≡ tagsOf panel ⌝ }
-{
-    Tags {
-        key: panel.key,
-        care: panel.care,
-        target: panel.target,
-    }
-}
-
-fn make_masks(width: u32, panel: Panel) -> Masks
-    requires { ⌜ Fit width panel ⌝ }
-    ensures { λ r. ⌜ r ≡ masksOf width panel ⌝ }
-{
-    let t = tops_of(width, panel.sdr);
-    let mask = mask_of(width);
-    let care = panel.sc1 | panel.sc2;
-    let smaller = panel.sc1 & panel.sc2;
-    let exact = panel.sc2 ^ smaller;
-    let larger = panel.sc1 ^ smaller;
-    let less = add_word(width, t, exact, mask);
-    let need = filled(width, t, care);
-    let limit = (exact ^ (exact & less)) ^ ((panel.comp & panel.sc1) ^ larger);
-    let flip = mask ^ (larger ^ (panel.comp & exact));
-    Masks {
-        topcare: care & need,
-        topflip: (flip ^ limit) & need,
-        lowcare: care & !t,
-        lowflip: flip & !t,
-        rest: limit & !t,
-        limit,
-        want: need & !limit,
-    }
-}
-
-fn make_changes(width: u32, panel: Panel) -> Changes
-    requires { ⌜ Fit width panel ⌝ }
-    ensures { λ r. ⌜ r ≡ changesOf width panel ⌝ }
-{
-    let t = tops_of(width, panel.sdr);
-    let addend = panel.comp & panel.mor;
-    Changes {
-        comp: panel.comp,
-        mor: panel.mor,
-        addend,
-        rest: addend & !t,
-        low: !t,
-        tops: t,
-    }
-}
+use masks::filled;
+use masks::make_changes;
+use masks::make_masks;
+use masks::make_tags;
+use masks::tops_of;
 
 // ---- the checks, 1 to 7
 

@@ -1,7 +1,8 @@
 -- 5: two codes stand in a syllable exactly where SC1, SC2 and their difference all fill it.
 use lib.Bits.{xor-lt}
 use Rattle.machine.specs.Refusals.{badCodes}
-use Rattle.wide.proofs.Checks.{fit-tops, two-codes}
+use Rattle.masks.proofs.Words.{fit-tops}
+use Rattle.wide.proofs.Checks.{two-codes}
 use borrow.Author.Needs.{needs}
 use Rattle.wide.proofs.bad_codes.Statement.{statement}
 use Rattle.wide.proofs.bad_codes.Tie as tie

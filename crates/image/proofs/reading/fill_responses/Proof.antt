@@ -6,7 +6,7 @@ use lib.ListN.{length, drop, length-set}
 use lib.Seq.{sets}
 use borrow.Author.Needs.{needs}
 use Rattle.layout.specs.Reading.{numbers}
-use Rattle.parts.proofs.Storing.{fill-bytes-turn, fill-none}
+use Rattle.stores.proofs.Storing.{fill-bytes-turn, fill-none}
 use Rattle.image.proofs.reading.fill_responses.Statement.{statement}
 use Rattle.image.proofs.reading.fill_responses.Tie as tie
 

@@ -1,4 +1,4 @@
-use Rattle.parts.specs.Parts.{state}
+use Rattle.jobs.specs.Runs.{state}
 use Rattle.image.proofs.WriteCalls.{write-first, write-unfit, write-short, write-passed}
 use borrow.Author.Needs.{needs}
 use Rattle.image.proofs.writing.check_write.Statement.{statement}

@@ -1,6 +1,6 @@
 use native.Mathlib.Omega.{arith}
 use lib.ListN.{length}
-use Rattle.parts.specs.Parts.{state}
+use Rattle.jobs.specs.Runs.{state}
 use Rattle.image.proofs.WriteCalls.{write-room, write-refused, write-done}
 use borrow.Author.Needs.{needs}
 use Rattle.image.proofs.writing.write.Statement.{statement}

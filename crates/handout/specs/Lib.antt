@@ -1,0 +1,2 @@
+-- a whole round, from a list of verdicts
+pub mod Whole

@@ -1,0 +1,2 @@
+-- what inner contracts of the word-wide machine cite
+pub mod Plan

@@ -1,0 +1,102 @@
+// What a pulse works out of the panel once, by whole words: masks, tags and changes for the sweeps.
+// Document 01, 'One pulse'; that they do what it says is the law proofs/Bridge.
+use machine::Panel;
+use sweeps::Changes;
+use sweeps::Masks;
+use sweeps::Tags;
+ghost use mathlib.Core.Path.{_≡_};
+ghost use Prim.Native.Nat.{_-_, _^_, _≤_, _<_};
+ghost use Rattle.fields.specs.Fields.{fields, addIn, aboveIn};
+ghost use Rattle.fields.specs.Tops.{topsOf, Topped};
+ghost use Rattle.masks.specs.Plan.{Fit, masksOf, tagsOf, changesOf};
+
+// ---- whole words, all syllables at once
+
+// The bits of a word.
+pub fn mask_of(width: u32) -> u64
+    requires { ⌜ (0 < width) × (width ≤ 64) ⌝ }
+    ensures { λ r. ⌜ r ≡ 2 ^ width - 1 ⌝ }
+{
+    u64::MAX >> (64 - width)
+}
+
+// The top bit of each syllable: "Bit N-1 always starts a syllable (house)."
+pub fn tops_of(width: u32, sdr: u64) -> u64
+    requires { ⌜ (0 < width) × (width ≤ 64) ⌝ }
+    ensures { λ r. ⌜ r ≡ topsOf width sdr ⌝ }
+{
+    sdr | (1u64 << (width - 1))
+}
+
+// Each syllable of w plus that of a, modulo 2 to its width.
+pub fn add_word(width: u32, t: u64, w: u64, a: u64) -> u64
+    requires { ⌜ (0 < width) × (width ≤ 64) ⌝ }
+    ensures { λ r. ⌜ r ≡ addIn (fields width t) w a 0 ⌝ }
+{
+    let low = std::num::wrapping_add_u64(w & !t, a & !t);
+    (low ^ ((w ^ a) & t)) & mask_of(width)
+}
+
+// A one at the top of each syllable that is not 0.
+pub fn filled(width: u32, t: u64, q: u64) -> u64
+    requires { ⌜ Topped width t ⌝ }
+    requires { ⌜ q < 2 ^ width ⌝ }
+    ensures { λ r. ⌜ r ≡ aboveIn (fields width t) q 0 0 ⌝ }
+{
+    let u = mask_of(width);
+    let low = std::num::wrapping_add_u64(q & !t, u & !t);
+    ((q & u) | ((q | u) & low)) & t
+}
+
+// ---- what a pulse works out of the panel once
+
+pub fn make_tags(panel: Panel) -> Tags
+    ensures { λ r. ⌜ r ≡ tagsOf panel ⌝ }
+{
+    Tags {
+        key: panel.key,
+        care: panel.care,
+        target: panel.target,
+    }
+}
+
+pub fn make_masks(width: u32, panel: Panel) -> Masks
+    requires { ⌜ Fit width panel ⌝ }
+    ensures { λ r. ⌜ r ≡ masksOf width panel ⌝ }
+{
+    let t = tops_of(width, panel.sdr);
+    let mask = mask_of(width);
+    let care = panel.sc1 | panel.sc2;
+    let smaller = panel.sc1 & panel.sc2;
+    let exact = panel.sc2 ^ smaller;
+    let larger = panel.sc1 ^ smaller;
+    let less = add_word(width, t, exact, mask);
+    let need = filled(width, t, care);
+    let limit = (exact ^ (exact & less)) ^ ((panel.comp & panel.sc1) ^ larger);
+    let flip = mask ^ (larger ^ (panel.comp & exact));
+    Masks {
+        topcare: care & need,
+        topflip: (flip ^ limit) & need,
+        lowcare: care & !t,
+        lowflip: flip & !t,
+        rest: limit & !t,
+        limit,
+        want: need & !limit,
+    }
+}
+
+pub fn make_changes(width: u32, panel: Panel) -> Changes
+    requires { ⌜ Fit width panel ⌝ }
+    ensures { λ r. ⌜ r ≡ changesOf width panel ⌝ }
+{
+    let t = tops_of(width, panel.sdr);
+    let addend = panel.comp & panel.mor;
+    Changes {
+        comp: panel.comp,
+        mor: panel.mor,
+        addend,
+        rest: addend & !t,
+        low: !t,
+        tops: t,
+    }
+}

@@ -1,0 +1,2 @@
+-- laws of stores
+pub mod Storing
