@@ -109,8 +109,11 @@ pub fn load(board: Board, rest: &[u8]) -> Turn {
         b"comp sdr sc1 sc2 mor key care target address",
         &rest[from..to],
     );
+    if 8 < register {
+        return bad_line(board);
+    }
     let row = read_value(register, &rest[to..end]);
-    if (8 < register) | !row.right {
+    if !row.right {
         return bad_line(board);
     }
     // the list of names has the registers in the order of their numbers
