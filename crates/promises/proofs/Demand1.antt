@@ -79,50 +79,31 @@ abbrev pub some : Found → Bool
 some (At k) = true
 some Nothing = false
 
-abbrev pub pulseTable : Machine → Panel → Lines → List Entry
-pulseTable m p l =
+-- 1 to 3, with which every call's table begins but that of reading, and then the rest
+abbrev pub machineTable : Machine → List Entry → List Entry
+machineTable m rest =
     entry 1 (badSize (length (m .words)) (length (m .responses)))
     ∷ entry 2 (badWidth (m .width))
     ∷ entry 3 (some (lowest (tooWide (m .width)) 0 (m .words)))
-    ∷ entry 4 (badPanel (m .width) p)
+    ∷ rest
+
+abbrev pub pulseTable : Machine → Panel → Lines → List Entry
+pulseTable m p l =
+    machineTable m (entry 4 (badPanel (m .width) p)
     ∷ entry 5 (badCodes (m .width) p l)
     ∷ entry 6 (badLines l)
     ∷ entry 7 (badAddress (length (m .words)) p l)
-    ∷ []
-
-abbrev pub resolutionTable : Machine → List Entry
-resolutionTable m =
-    entry 1 (badSize (length (m .words)) (length (m .responses)))
-    ∷ entry 2 (badWidth (m .width))
-    ∷ entry 3 (some (lowest (tooWide (m .width)) 0 (m .words)))
-    ∷ []
+    ∷ [])
 
 -- `unfit` is what 8 judges of the call
 abbrev pub unfitTable : Bool → Machine → List Entry
-unfitTable unfit m =
-    entry 1 (badSize (length (m .words)) (length (m .responses)))
-    ∷ entry 2 (badWidth (m .width))
-    ∷ entry 3 (some (lowest (tooWide (m .width)) 0 (m .words)))
-    ∷ entry 8 unfit
-    ∷ []
+unfitTable unfit m = machineTable m (entry 8 unfit ∷ [])
 
 abbrev pub answerTable : ℕ → ℕ → WordSlice → Machine → List Entry
-answerTable x f k m =
-    entry 1 (badSize (length (m .words)) (length (m .responses)))
-    ∷ entry 2 (badWidth (m .width))
-    ∷ entry 3 (some (lowest (tooWide (m .width)) 0 (m .words)))
-    ∷ entry 8 (badBits x f)
-    ∷ entry 11 (otherThan k (shown x m))
-    ∷ []
+answerTable x f k m = machineTable m (entry 8 (badBits x f) ∷ entry 11 (otherThan k (shown x m)) ∷ [])
 
 abbrev pub writeTable : State → ℕ → List Entry
-writeTable s room =
-    entry 1 (badSize (length (s .machine .words)) (length (s .machine .responses)))
-    ∷ entry 2 (badWidth (s .machine .width))
-    ∷ entry 3 (some (lowest (tooWide (s .machine .width)) 0 (s .machine .words)))
-    ∷ entry 8 (badJob (s .machine .width) (s .held))
-    ∷ entry 10 (ltb room (length (imageOf s)))
-    ∷ []
+writeTable s room = machineTable (s .machine) (entry 8 (badJob (s .machine .width) (s .held)) ∷ entry 10 (ltb room (length (imageOf s))) ∷ [])
 
 abbrev pub broken : Scanned → Bool
 broken Sound = false
@@ -148,68 +129,58 @@ machine-first false false (At k) c es h = refl
 machine-first false false Nothing c es h = h
 
 -- 1 to 3, and then what follows
-after-machine : (m : Machine) (c : Check) (es : List Entry) → given c ≡ first es
-    → given (machineCheck m else c)
-    ≡ first (entry 1 (badSize (length (m .words)) (length (m .responses))) ∷ entry 2 (badWidth (m .width)) ∷ entry 3 (some (lowest (tooWide (m .width)) 0 (m .words))) ∷ es)
+after-machine : (m : Machine) (c : Check) (es : List Entry) → given c ≡ first es → given (machineCheck m else c) ≡ first (machineTable m es)
 unfolding machineCheck
 after-machine m c es h =
     machine-first (badSize (length (m .words)) (length (m .responses))) (badWidth (m .width)) (lowest (tooWide (m .width)) 0 (m .words)) c es h
 
-four-to-seven : (b₄ b₅ b₆ b₇ : Bool)
-    → given (refuse PanelTooWide b₄ else refuse TwoCodes b₅ else refuse WrongLines b₆ else refuse NoSuchWord b₇) ≡ first (entry 4 b₄ ∷ entry 5 b₅ ∷ entry 6 b₆ ∷ entry 7 b₇ ∷ [])
+-- one entry more
+and-then : (r : Refusal) (b : Bool) (c : Check) (es : List Entry) → given c ≡ first es → given (refuse r b else c) ≡ first (entry (numberOf r) b ∷ es)
 unfolding first
-four-to-seven true b₅ b₆ b₇ = refl
-four-to-seven false true b₆ b₇ = refl
-four-to-seven false false true b₇ = refl
-four-to-seven false false false true = refl
-four-to-seven false false false false = refl
+and-then r true c es h = refl
+and-then r false c es h = h
+
+last : (r : Refusal) (b : Bool) → given (refuse r b) ≡ first (entry (numberOf r) b ∷ [])
+unfolding first
+last r true = refl
+last r false = refl
+
+-- chains of checks may be put together from either end
+regroup : (c : Check) (r : Refusal) (b : Bool) (d : Check) → given ((c else refuse r b) else d) ≡ given (c else (refuse r b else d))
+regroup Passed r b d = refl
+regroup (Refused w) r b d = refl
 
 pub pulse-given : (m : Machine) (p : Panel) (l : Lines) → given (pulseCheck m p l) ≡ first (pulseTable m p l)
 unfolding pulseCheck
 pulse-given m p l =
-    after-machine m _ _ (four-to-seven (badPanel (m .width) p) (badCodes (m .width) p l) (badLines l) (badAddress (length (m .words)) p l))
+    after-machine m _ _ (and-then PanelTooWide (badPanel (m .width) p) _ _ (and-then TwoCodes (badCodes (m .width) p l) _ _
+    (and-then WrongLines (badLines l) _ _ (last NoSuchWord (badAddress (length (m .words)) p l)))))
 
 passed-else : (c : Check) → given (c else Passed) ≡ given c
 passed-else Passed = refl
 passed-else (Refused r) = refl
 
-pub resolution-given : (m : Machine) → given (machineCheck m) ≡ first (resolutionTable m)
+pub resolution-given : (m : Machine) → given (machineCheck m) ≡ first (machineTable m [])
 unfolding first
 resolution-given m = sym (passed-else (machineCheck m)) ∙ after-machine m Passed [] refl
 
-one : (r : Refusal) (b : Bool) → given (refuse r b) ≡ first (entry (numberOf r) b ∷ [])
-unfolding first
-one r true = refl
-one r false = refl
-
 pub show-given : (x : ℕ) (m : Machine) → given (showCheck x m) ≡ first (unfitTable (noBit x) m)
 unfolding bitsCheck
-show-given x m = after-machine m (refuse Unfit (noBit x)) (entry 8 (noBit x) ∷ []) (one Unfit (noBit x))
-
-regroup : (c : Check) (b b′ : Bool) → given ((c else refuse Unfit b) else refuse NotShown b′) ≡ given (c else (refuse Unfit b else refuse NotShown b′))
-regroup Passed b b′ = refl
-regroup (Refused r) b b′ = refl
-
-eight-eleven : (b b′ : Bool) → given (refuse Unfit b else refuse NotShown b′) ≡ first (entry 8 b ∷ entry 11 b′ ∷ [])
-unfolding first
-eight-eleven true b′ = refl
-eight-eleven false true = refl
-eight-eleven false false = refl
+show-given x m = after-machine m _ _ (last Unfit (noBit x))
 
 pub answer-given : (x f : ℕ) (k : WordSlice) (m : Machine) → given (answerCheck x f k m) ≡ first (answerTable x f k m)
 unfolding answerCheck bitsCheck
 answer-given x f k m =
-    regroup (machineCheck m) (badBits x f) (otherThan k (shown x m))
-    ∙ after-machine m (refuse Unfit (badBits x f) else refuse NotShown (otherThan k (shown x m))) (entry 8 (badBits x f) ∷ entry 11 (otherThan k (shown x m)) ∷ [])
-    (eight-eleven (badBits x f) (otherThan k (shown x m)))
+    regroup (machineCheck m) Unfit (badBits x f) _
+    ∙ after-machine m _ _ (and-then Unfit (badBits x f) _ _ (last NotShown (otherThan k (shown x m))))
 
 pub start-given : (m : Machine) (h : Held) (o : Job) → given (startCheck m h o) ≡ first (unfitTable (isHeld h || badUsed (m .width) o) m)
 unfolding startCheck
-start-given m h o = after-machine m (refuse Unfit (isHeld h || badUsed (m .width) o)) (entry 8 (isHeld h || badUsed (m .width) o) ∷ []) (one Unfit (isHeld h || badUsed (m .width) o))
+start-given m h o = after-machine m _ _ (last Unfit (isHeld h || badUsed (m .width) o))
 
 pub step-given : (m : Machine) (h : Held) → given (stepCheck m h) ≡ first (unfitTable (badStep (m .width) h) m)
 unfolding stepCheck
-step-given m h = after-machine m (refuse Unfit (badStep (m .width) h)) (entry 8 (badStep (m .width) h) ∷ []) (one Unfit (badStep (m .width) h))
+step-given m h = after-machine m _ _ (last Unfit (badStep (m .width) h))
 
 twice : (c : Check) (b b′ : Bool) → given ((c else refuse Unfit b) else refuse Unfit b′) ≡ given (c else refuse Unfit (b || b′))
 twice Passed true b′ = refl
@@ -219,21 +190,12 @@ twice (Refused r) b b′ = refl
 pub total-given : (m : Machine) (h : Held) → given (totalCheck m h) ≡ first (unfitTable (badStep (m .width) h || badTotal h) m)
 unfolding totalCheck stepCheck
 total-given m h =
-    twice (machineCheck m) (badStep (m .width) h) (badTotal h)
-    ∙ after-machine m (refuse Unfit (badStep (m .width) h || badTotal h)) (entry 8 (badStep (m .width) h || badTotal h) ∷ []) (one Unfit (badStep (m .width) h || badTotal h))
-
-eight-ten : (b b′ : Bool) → given (refuse Unfit b else refuse NoRoom b′) ≡ first (entry 8 b ∷ entry 10 b′ ∷ [])
-unfolding first
-eight-ten true b′ = refl
-eight-ten false true = refl
-eight-ten false false = refl
+    twice (machineCheck m) (badStep (m .width) h) (badTotal h) ∙ after-machine m _ _ (last Unfit (badStep (m .width) h || badTotal h))
 
 pub write-given : (s : State) (room : ℕ) → given (writeCheck s room) ≡ first (writeTable s room)
 unfolding writeCheck
 write-given s room =
-    after-machine (s .machine) (refuse Unfit (badJob (s .machine .width) (s .held)) else refuse NoRoom (ltb room (length (imageOf s))))
-    (entry 8 (badJob (s .machine .width) (s .held)) ∷ entry 10 (ltb room (length (imageOf s))) ∷ [])
-    (eight-ten (badJob (s .machine .width) (s .held)) (ltb room (length (imageOf s))))
+    after-machine (s .machine) _ _ (and-then Unfit (badJob (s .machine .width) (s .held)) _ _ (last NoRoom (ltb room (length (imageOf s)))))
 
 nine-ten : (c : Scanned) (b : Bool) → given (refuseBytes c else refuse NoRoom b) ≡ first (entry 9 (broken c) ∷ entry 10 b ∷ [])
 unfolding first
@@ -247,7 +209,7 @@ read-given bs words responses = nine-ten (scanned bs) (ltb words (wordsIn bs) ||
 
 pub round-given : (x f : ℕ) (m : Machine) → given (roundCheck x f m) ≡ first (unfitTable (badBits x f) m)
 unfolding bitsCheck
-round-given x f m = after-machine m (refuse Unfit (badBits x f)) (entry 8 (badBits x f) ∷ []) (one Unfit (badBits x f))
+round-given x f m = after-machine m _ _ (last Unfit (badBits x f))
 
 -- ---- the answer tells that number: `tells..` is an answer's number, 0 where the call is accepted
 
@@ -285,7 +247,7 @@ found-none : (w : Found) → resolver.told (asResolved w) .refusal ≡ 0
 found-none (At k) = refl
 found-none Nothing = refl
 
-pub resolution-tells : (key care : ℕ) (m : Machine) → resolver.told (resolution key care m) .refusal ≡ first (resolutionTable m)
+pub resolution-tells : (key care : ℕ) (m : Machine) → resolver.told (resolution key care m) .refusal ≡ first (machineTable m [])
 unfolding resolution
 resolution-tells key care m =
     by-check (λ (a : Resolved). resolver.told a .refusal) resolved.Refused (λ r. refl) (machineCheck m) _ (found-none (res.resolved key care m)) ∙ resolution-given m
