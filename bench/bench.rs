@@ -86,55 +86,67 @@ fn agree(random: &mut Random) -> usize {
 
 // ---- times
 
-fn median(mut times: Vec<f64>) -> f64 {
+const SETS: usize = 4;
+const ROUNDS: usize = 201;
+
+// A quarter of the rounds took less.
+fn quartile(mut times: Vec<f64>) -> f64 {
     times.sort_by(|a, b| a.partial_cmp(b).unwrap());
-    times[times.len() / 2]
+    times[times.len() / 4]
 }
 
-const SETS: usize = 4;
-const ROUNDS: usize = 61;
+// One column: a panel, words in four sets, and the times of a call of each variant and, last, of the record filter.
+struct Column {
+    heading: String,
+    panel: Panel,
+    sets: Vec<(Vec<u64>, Vec<u8>)>,
+    filter: Box<dyn FnMut(&Panel, usize) -> u64>,
+    times: Vec<Vec<f64>>,
+}
 
-type Column = Vec<(&'static str, f64)>;
-
-// Nanoseconds of one call of each variant, on panels of K syllables.
-fn measure<const K: usize>(random: &mut Random, width: u32, select: Select) -> Column {
+fn column<const K: usize>(random: &mut Random, width: u32, select: Select, heading: &str) -> Column {
     let p = panel(random, width, K as u32);
     let sets: Vec<(Vec<u64>, Vec<u8>)> = (0..SETS).map(|_| words(random, &p, select)).collect();
     let mut rows: Vec<_> = sets.iter().map(|(w, r)| hand::records::<K>(&p, w, r)).collect();
     let codes = hand::codes::<K>(&p);
-    // the data of the table is held too: a call that is turned down would be quick
+    // the words of the tables are held too: a call that is turned down would be quick
     for ((w, r), rows) in sets.iter().zip(rows.iter_mut()) {
         hold(&p, w, r);
         let (mut w, mut r) = (w.clone(), r.clone());
         assert!(hand::record_search(&p, &codes, rows) == proved::wide_search(&p, &mut w, &mut r));
         assert!(rows.iter().zip(&r).all(|(x, r)| x.response == *r));
     }
-    let (mut w, mut r) = sets[0].clone();
-    let variants = variants();
-    let all = variants.len() + 1;
-    let mut times: Vec<Vec<f64>> = vec![Vec::new(); all];
-    for round in 0..ROUNDS {
-        for i in 0..all {
-            let v = (i + round) % all;
-            let rows = &mut rows[round % SETS];
-            // what the variants before changed is set back, outside the time
-            w.copy_from_slice(&sets[round % SETS].0);
-            r.copy_from_slice(&sets[round % SETS].1);
-            let slow = v < variants.len() && variants[v].0.starts_with("cells");
-            let calls = if slow { 1 } else { 40 };
-            let start = Instant::now();
-            for _ in 0..calls {
-                if v < variants.len() {
-                    black_box(variants[v].1(black_box(&p), &mut w, &mut r));
-                } else {
-                    black_box(hand::record_search(black_box(&p), &codes, rows));
-                }
-            }
-            times[v].push(start.elapsed().as_nanos() as f64 / calls as f64);
-        }
+    Column {
+        heading: heading.to_string(),
+        panel: p,
+        sets,
+        filter: Box::new(move |p, set| hand::record_search(p, &codes, &mut rows[set])),
+        times: vec![Vec::new(); variants().len() + 1],
     }
-    let names = variants.iter().map(|v| v.0).chain(["record filter"]);
-    names.zip(times.into_iter().map(median)).collect()
+}
+
+// Every variant once, 40 calls in one time; those cell by cell, one.
+fn measure(c: &mut Column, round: usize) {
+    let variants = variants();
+    let set = round % SETS;
+    let (mut w, mut r) = c.sets[set].clone();
+    for i in 0..=variants.len() {
+        let v = (i + round) % (variants.len() + 1);
+        // what the variants before changed is set back, outside the time
+        w.copy_from_slice(&c.sets[set].0);
+        r.copy_from_slice(&c.sets[set].1);
+        let slow = v < variants.len() && variants[v].0.starts_with("cells");
+        let calls = if slow { 1 } else { 40 };
+        let start = Instant::now();
+        for _ in 0..calls {
+            if v < variants.len() {
+                black_box(variants[v].1(black_box(&c.panel), &mut w, &mut r));
+            } else {
+                black_box((c.filter)(black_box(&c.panel), set));
+            }
+        }
+        c.times[v].push(start.elapsed().as_nanos() as f64 / calls as f64);
+    }
 }
 
 // ---- tables
@@ -159,36 +171,58 @@ const RATIOS: [(&str, &str); 17] = [
     ("wide search+multiadd", "hand search, branching"),
 ];
 
-fn at(name: &str, c: &Column) -> f64 {
-    c.iter().find(|x| x.0 == name).unwrap().1
+// The first five columns by number of syllables, the others by selection with 8 syllables.
+fn columns<const TOP: usize>(random: &mut Random, width: u32) -> [Column; 8] {
+    [
+        column::<1>(random, width, Select::Most, "1"),
+        column::<4>(random, width, Select::Most, "4"),
+        column::<8>(random, width, Select::Most, "8"),
+        column::<16>(random, width, Select::Most, "16"),
+        column::<TOP>(random, width, Select::Most, &TOP.to_string()),
+        column::<8>(random, width, Select::All, "all"),
+        column::<8>(random, width, Select::Runs, "runs"),
+        column::<8>(random, width, Select::Few, "few"),
+    ]
 }
 
 fn line(name: &str, values: [String; 8]) {
     println!("{name:54}{}", values.map(|v| format!("{v:>8}")).concat());
 }
 
-// The first five columns by number of syllables, the others by selection with 8 syllables. Answers the second.
-fn table<const TOP: usize>(random: &mut Random, width: u32) -> Column {
-    let columns = [
-        measure::<1>(random, width, Select::Most),
-        measure::<4>(random, width, Select::Most),
-        measure::<8>(random, width, Select::Most),
-        measure::<16>(random, width, Select::Most),
-        measure::<TOP>(random, width, Select::Most),
-        measure::<8>(random, width, Select::All),
-        measure::<8>(random, width, Select::Runs),
-        measure::<8>(random, width, Select::Few),
-    ];
-    line(&format!("N = {width}"), ["1", "4", "8", "16", &TOP.to_string(), "all", "runs", "few"].map(String::from));
-    for i in 0..columns[0].len() {
-        line(columns[0][i].0, columns.each_ref().map(|c| format!("{:.0}", c[i].1)));
+fn print(columns: &[Column; 8]) {
+    line(&format!("N = {}", columns[0].panel.width), columns.each_ref().map(|c| c.heading.clone()));
+    for name in names() {
+        line(name, columns.each_ref().map(|c| format!("{:.0}", time(c, name))));
     }
     println!("ratios:");
     for (a, b) in RATIOS {
-        line(&format!("{a} / {b}"), columns.each_ref().map(|c| format!("{:.2}", at(a, c) / at(b, c))));
+        line(&format!("{a} / {b}"), columns.each_ref().map(|c| format!("{:.2}", time(c, a) / time(c, b))));
     }
-    let [_, four, ..] = columns;
-    four
+}
+
+fn names() -> Vec<&'static str> {
+    variants().iter().map(|v| v.0).chain(["record filter"]).collect()
+}
+
+fn time(c: &Column, name: &str) -> f64 {
+    quartile(c.times[names().iter().position(|x| *x == name).unwrap()].clone())
+}
+
+// All columns are measured in turn, so that each has its share of every moment of the run.
+fn tables(random: &mut Random) {
+    let mut tables = [columns::<64>(random, 64), columns::<60>(random, 60)];
+    for round in 0..ROUNDS {
+        for c in tables.as_flattened_mut() {
+            measure(c, round);
+        }
+    }
+    println!("n = {N}, nanoseconds of a whole call, lower quartiles of {ROUNDS} rounds, by number of syllables, most words");
+    println!("selected, at random; and with 8 syllables, all words selected, half of them in runs, few in one run:");
+    for t in &tables {
+        print(t);
+    }
+    #[cfg(sqlite)]
+    sqlite::run(random, time(&tables[0][1], "wide search"));
 }
 
 fn main() {
@@ -199,12 +233,7 @@ fn main() {
         [] => {
             agree(&mut random);
             println!("All variants agree on {PANELS} random panels.");
-            println!("n = {N}, nanoseconds of a whole call, medians of {ROUNDS} rounds, by number of syllables, most words");
-            println!("selected at random; and with 8 syllables, all words selected, half of them in runs, few in one run:");
-            let _four = table::<64>(&mut random, 64);
-            table::<60>(&mut random, 60);
-            #[cfg(sqlite)]
-            sqlite::run(&mut random, at("wide search", &_four));
+            tables(&mut random);
         }
         ["agree"] => println!("{} passed, 0 failed", agree(&mut random)),
         ["names"] => variants().iter().for_each(|v| println!("{}", v.0)),

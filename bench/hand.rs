@@ -139,8 +139,8 @@ pub fn blocked_search(p: &Panel, w: &mut [u64], r: &mut [u8]) -> u64 {
 }
 
 // The plain loop with branches: a word that is not selected is not read, and one whose exact bits differ is not
-// compared. Nothing has to keep the compiler from taking the branches out: the test is too long to be done in vain.
-// The assembly has a jump for each `&&`.
+// compared. The compiler keeps the branches by itself, the tests being too long to be done in vain: the assembly has a
+// jump for each `&&`.
 pub fn branching_search(p: &Panel, w: &mut [u64], r: &mut [u8]) -> u64 {
     let m = plain(p);
     let mut count = 0;
@@ -305,8 +305,8 @@ pub fn multiwrite(p: &Panel, w: &mut [u64], r: &mut [u8]) -> u64 {
     count(p, r)
 }
 
-// With a branch: a word that is not selected is neither read nor stored. The compiler keeps it, because it must not
-// store where the loop doesn't; the assembly has the jump.
+// With a branch: a word that is not selected is neither read nor stored. The compiler keeps it by itself, because it
+// must not store where the loop doesn't: the assembly has the jump.
 pub fn branching_multiadd(p: &Panel, w: &mut [u64], r: &mut [u8]) -> u64 {
     let a = addend(p);
     let mut count = 0;

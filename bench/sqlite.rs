@@ -1,6 +1,6 @@
 // The same 1,024 rows in SQLite, in memory: a prepared SELECT count(*) and a marking UPDATE, for 4 syllables.
 use crate::data::{panel, words, Random, Select};
-use crate::{hand, median, ROUNDS};
+use crate::{hand, quartile, ROUNDS};
 use std::ffi::{c_char, c_int, c_void, CString};
 use std::ptr::null_mut;
 use std::time::Instant;
@@ -62,6 +62,6 @@ pub fn run(random: &mut Random, wide: f64) {
             times.push(start.elapsed().as_nanos() as f64);
         }
     }
-    let [a, b] = times.map(median);
+    let [a, b] = times.map(quartile);
     println!("SQLite, 4 syllables: SELECT count(*) {a:.0} ns, {:.0} times wide search; marking UPDATE {b:.0} ns, {:.0} times", a / wide, b / wide);
 }
