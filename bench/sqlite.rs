@@ -1,5 +1,6 @@
 // The same 1,024 rows in SQLite, in memory: a prepared SELECT count(*) and a marking UPDATE, for 4 syllables.
-use crate::{hand_search, median, panel, syllables, words, Random, ROUNDS};
+use crate::data::{panel, words, Random, Select};
+use crate::{hand, quartile, ROUNDS};
 use std::ffi::{c_char, c_int, c_void, CString};
 use std::ptr::null_mut;
 use std::time::Instant;
@@ -26,9 +27,9 @@ fn prepare(db: *mut c_void, sql: &str) -> *mut c_void {
 }
 
 pub fn run(random: &mut Random, wide: f64) {
-    let p = panel(random, 4);
-    let (mut w, mut r) = words(random, &p);
-    let all = syllables(&p);
+    let p = panel(random, 64, 4);
+    let (mut w, mut r) = words(random, &p, Select::Most);
+    let all = hand::syllables(&p);
     let mut db = null_mut();
     let name = CString::new(":memory:").unwrap();
     assert!(unsafe { sqlite3_open(name.as_ptr(), &mut db) } == 0);
@@ -47,7 +48,7 @@ pub fn run(random: &mut Random, wide: f64) {
     let count = prepare(db, &format!("SELECT count(*) FROM household WHERE {test}"));
     let mark = prepare(db, &format!("UPDATE household SET mark = ({test})"));
     let mut times = [Vec::new(), Vec::new()];
-    let expected = hand_search(&p, &mut w, &mut r) as i64;
+    let expected = hand::search(&p, &mut w, &mut r) as i64;
     for _ in 0..ROUNDS {
         for (statement, times) in [count, mark].into_iter().zip(times.iter_mut()) {
             let start = Instant::now();
@@ -61,6 +62,6 @@ pub fn run(random: &mut Random, wide: f64) {
             times.push(start.elapsed().as_nanos() as f64);
         }
     }
-    let [a, b] = times.map(median);
+    let [a, b] = times.map(quartile);
     println!("SQLite, 4 syllables: SELECT count(*) {a:.0} ns, {:.0} times wide search; marking UPDATE {b:.0} ns, {:.0} times", a / wide, b / wide);
 }
