@@ -1,1 +1,2 @@
+-- which register a number names, and what it takes
 pub mod Numbered

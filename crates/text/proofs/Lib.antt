@@ -1,3 +1,4 @@
+-- laws that the functions' proofs cite
 pub mod Letters
 pub mod Putting
 pub mod Reading
