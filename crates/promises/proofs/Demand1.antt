@@ -2,7 +2,7 @@
 -- That calls take any input is said by their contracts, which have no `requires`.
 -- Assumes nothing.
 use Prim.Native.Nat.{ℕ}
-use mathlib.Core.Path.{_≡_, refl, sym, _∙_}
+use mathlib.Core.Path.{_≡_, refl, sym, ap, _∙_}
 use mathlib.Core.Bool.{Bool, true, false, _||_}
 use lib.Dec.{ltb}
 use mathlib.Core.List.{List, [], _∷_}
@@ -23,7 +23,7 @@ use Rattle.machine.specs.Machine.{Machine}
 use Rattle.machine.specs.Pulse.{pulsed}
 use Rattle.machine.specs.Resolution as res
 use Rattle.machine.specs.Resolution.{lowest}
-use Rattle.machine.specs.Refusals.{badSize, badWidth, tooWide, badPanel, badCodes, badLines, badAddress, _else_, refuse, refuseWord, machineCheck, pulseCheck, answerBy, changeBy, answerOf, after, numberOf, told}
+use Rattle.machine.specs.Refusals.{badSize, badWidth, tooWide, badPanel, badCodes, badLines, badAddress, _else_, refuse, refuseWord, machineCheck, pulseCheck, answerBy, changeBy, answerOf, after, tells, numberOf, alsoAnswers, told}
 use Rattle.plans.specs.declared.Job.{Job}
 use Rattle.plans.specs.declared.Held.{Held}
 use Rattle.plans.specs.declared.Held.the-variants.{Holds}
@@ -52,7 +52,6 @@ use Rattle.resolver.specs.declared.Resolved.the-variants as resolved
 use Rattle.resolver.specs.Answers as resolver
 use Rattle.resolver.specs.Answers.{asResolved, resolution}
 use Rattle.rounds.specs.declared.Verdict.{Verdict}
-use Rattle.rounds.specs.declared.Reply.{Reply}
 use Rattle.rounds.specs.declared.Reply.the-variants as reply
 use Rattle.rounds.specs.Round as rounds
 use Rattle.handout.specs.declared.Report.{Report}
@@ -61,30 +60,32 @@ use Rattle.handout.specs.Whole as whole
 use Rattle.handout.specs.Whole.{ended, roundCheck, reportOf, afterRound}
 use Rattle.rounds.specs.Round.{noBit, badBits, otherThan, shown, bitsCheck, showCheck, showOf, answerCheck, replyOf, answeredAt, afterAnswer}
 
--- ---- a call's part of the table: the numbers it is checked for, in order, each with its condition
+-- ---- a call's part of the table: the numbers it is checked for, in order, each with its condition and what it "also answers"
 
 pub record Entry : Type 0 where
   pub number : ℕ
+  pub also : ℕ
   pub holds : Bool
 
 abbrev entry : ℕ → Bool → Entry
-entry k b = record { number = k; holds = b }
+entry k b = record { number = k; also = 0; holds = b }
 
--- "Checked in number order": the number of the first condition that holds, or 0
-unfoldable pub first : List Entry → ℕ
-first [] = 0
-first (e ∷ es) = pick (e .holds) (e .number) (first es)
+-- "Checked in number order": the number of the first condition that holds and what it also answers, or 0 and 0
+unfoldable pub first : List Entry → ℕ × ℕ
+first [] = (0, 0)
+first (e ∷ es) = pick (e .holds) (e .number, e .also) (first es)
 
-abbrev pub some : Found → Bool
-some (At k) = true
-some Nothing = false
+-- 3: "lowest such word"
+abbrev pub stray : Found → Entry
+stray (At k) = record { number = 3; also = k .0; holds = true }
+stray Nothing = record { number = 3; also = 0; holds = false }
 
 -- 1 to 3, with which every call's table begins but that of reading, and then the rest
 abbrev pub machineTable : Machine → List Entry → List Entry
 machineTable m rest =
     entry 1 (badSize (length (m .words)) (length (m .responses)))
     ∷ entry 2 (badWidth (m .width))
-    ∷ entry 3 (some (lowest (tooWide (m .width)) 0 (m .words)))
+    ∷ stray (lowest (tooWide (m .width)) 0 (m .words))
     ∷ rest
 
 abbrev pub pulseTable : Machine → Panel → Lines → List Entry
@@ -105,23 +106,27 @@ answerTable x f k m = machineTable m (entry 8 (badBits x f) ∷ entry 11 (otherT
 abbrev pub writeTable : State → ℕ → List Entry
 writeTable s room = machineTable (s .machine) (entry 8 (badJob (s .machine .width) (s .held)) ∷ entry 10 (ltb room (length (imageOf s))) ∷ [])
 
-abbrev pub broken : Scanned → Bool
-broken Sound = false
-broken (Broken at) = true
+-- 9: its "place"
+abbrev pub malformed : Scanned → Entry
+malformed Sound = record { number = 9; also = 0; holds = false }
+malformed (Broken at) = record { number = 9; also = at; holds = true }
 
 abbrev pub readTable : List ℕ → ℕ → ℕ → List Entry
 readTable bs words responses =
-    entry 9 (broken (scanned bs)) ∷ entry 10 (ltb words (wordsIn bs) || ltb responses (wordsIn bs)) ∷ []
+    malformed (scanned bs) ∷ entry 10 (ltb words (wordsIn bs) || ltb responses (wordsIn bs)) ∷ []
 
--- the number that a check gives, 0 if it is passed
-abbrev pub given : Check → ℕ
-given Passed = 0
-given (Refused r) = numberOf r
+-- the number that a check gives and what it also answers, 0 if it is passed
+abbrev pub given : Check → ℕ × ℕ
+given Passed = (0, 0)
+given (Refused r) = tells r
+
+abbrev said : Refusal → Bool → Entry
+said r b = record { number = numberOf r; also = alsoAnswers r; holds = b }
 
 -- ---- "given exactly then": each call's refusal is the first condition of its table that holds, and there is none where none does
 
 machine-first : (b₁ b₂ : Bool) (f : Found) (c : Check) (es : List Entry) → given c ≡ first es
-    → given ((refuse Size b₁ else refuse Width b₂ else refuseWord f) else c) ≡ first (entry 1 b₁ ∷ entry 2 b₂ ∷ entry 3 (some f) ∷ es)
+    → given ((refuse Size b₁ else refuse Width b₂ else refuseWord f) else c) ≡ first (entry 1 b₁ ∷ entry 2 b₂ ∷ stray f ∷ es)
 unfolding first
 machine-first true b₂ f c es h = refl
 machine-first false true f c es h = refl
@@ -135,12 +140,12 @@ after-machine m c es h =
     machine-first (badSize (length (m .words)) (length (m .responses))) (badWidth (m .width)) (lowest (tooWide (m .width)) 0 (m .words)) c es h
 
 -- one entry more
-and-then : (r : Refusal) (b : Bool) (c : Check) (es : List Entry) → given c ≡ first es → given (refuse r b else c) ≡ first (entry (numberOf r) b ∷ es)
+and-then : (r : Refusal) (b : Bool) (c : Check) (es : List Entry) → given c ≡ first es → given (refuse r b else c) ≡ first (said r b ∷ es)
 unfolding first
 and-then r true c es h = refl
 and-then r false c es h = h
 
-last : (r : Refusal) (b : Bool) → given (refuse r b) ≡ first (entry (numberOf r) b ∷ [])
+last : (r : Refusal) (b : Bool) → given (refuse r b) ≡ first (said r b ∷ [])
 unfolding first
 last r true = refl
 last r false = refl
@@ -197,7 +202,7 @@ unfolding writeCheck
 write-given s room =
     after-machine (s .machine) _ _ (and-then Unfit (badJob (s .machine .width) (s .held)) _ _ (last NoRoom (ltb room (length (imageOf s)))))
 
-nine-ten : (c : Scanned) (b : Bool) → given (refuseBytes c else refuse NoRoom b) ≡ first (entry 9 (broken c) ∷ entry 10 b ∷ [])
+nine-ten : (c : Scanned) (b : Bool) → given (refuseBytes c else refuse NoRoom b) ≡ first (malformed c ∷ entry 10 b ∷ [])
 unfolding first
 nine-ten Sound true = refl
 nine-ten Sound false = refl
@@ -211,58 +216,67 @@ pub round-given : (x f : ℕ) (m : Machine) → given (roundCheck x f m) ≡ fir
 unfolding bitsCheck
 round-given x f m = after-machine m _ _ (last Unfit (badBits x f))
 
--- ---- the answer tells that number: `tells..` is an answer's number, 0 where the call is accepted
+-- ---- the answer tells that number and what it also answers: `tells..` is an answer's, 0 where the call is accepted
 
-abbrev pub tellsStarted : Started → ℕ
-tellsStarted (started.Holds o) = 0
-tellsStarted (started.Refused r) = numberOf r
+abbrev pub tellsAnswer : Answer → ℕ × ℕ
+tellsAnswer a = (told a .refusal, told a .also)
 
-abbrev pub tellsStepped : Stepped → ℕ
-tellsStepped (stepped.Gave k c h) = 0
-tellsStepped (stepped.Refused r) = numberOf r
+abbrev pub tellsResolved : Resolved → ℕ × ℕ
+tellsResolved a = (resolver.told a .refusal, resolver.told a .also)
 
-abbrev pub tellsTotal : Total → ℕ
-tellsTotal (total.Pulses n) = 0
-tellsTotal (total.Refused r) = numberOf r
+abbrev pub tellsReport : Report → ℕ × ℕ
+tellsReport a = (whole.told a .refusal, whole.told a .also)
 
-abbrev pub tellsWrote : Wrote → ℕ
-tellsWrote (wrote.Length n) = 0
-tellsWrote (wrote.Refused r) = numberOf r
+abbrev pub tellsStarted : Started → ℕ × ℕ
+tellsStarted (started.Holds o) = (0, 0)
+tellsStarted (started.Refused r) = tells r
 
-abbrev pub tellsRead : Read → ℕ
-tellsRead (read.Machine w n h) = 0
-tellsRead (read.Refused r) = numberOf r
+abbrev pub tellsStepped : Stepped → ℕ × ℕ
+tellsStepped (stepped.Gave k c h) = (0, 0)
+tellsStepped (stepped.Refused r) = tells r
+
+abbrev pub tellsTotal : Total → ℕ × ℕ
+tellsTotal (total.Pulses n) = (0, 0)
+tellsTotal (total.Refused r) = tells r
+
+abbrev pub tellsWrote : Wrote → ℕ × ℕ
+tellsWrote (wrote.Length n) = (0, 0)
+tellsWrote (wrote.Refused r) = tells r
+
+abbrev pub tellsRead : Read → ℕ × ℕ
+tellsRead (read.Machine w n h) = (0, 0)
+tellsRead (read.Refused r) = tells r
 
 -- any answer by a check: a refusal's own number, and 0 for what is answered where the check passes
-by-check : {A : Type 0} (tells : A → ℕ) (turned : Refusal → A) → ((r : Refusal) → tells (turned r) ≡ numberOf r) → (c : Check) (done : A)
-    → tells done ≡ 0 → tells (answerBy c turned done) ≡ given c
-by-check tells turned e Passed done h = h
-by-check tells turned e (Refused r) done h = e r
+by-check : {A : Type 0} (says : A → ℕ × ℕ) (turned : Refusal → A) → ((r : Refusal) → says (turned r) ≡ tells r) → (c : Check) (done : A)
+    → says done ≡ (0, 0) → says (answerBy c turned done) ≡ given c
+by-check says turned e Passed done h = h
+by-check says turned e (Refused r) done h = e r
 
-pub pulse-tells : (m : Machine) (p : Panel) (l : Lines) → told (answerOf m p l) .refusal ≡ first (pulseTable m p l)
+pub pulse-tells : (m : Machine) (p : Panel) (l : Lines) → tellsAnswer (answerOf m p l) ≡ first (pulseTable m p l)
 unfolding answerOf
-pulse-tells m p l = by-check (λ (a : Answer). told a .refusal) answer.Refused (λ r. refl) (pulseCheck m p l) _ refl ∙ pulse-given m p l
+pulse-tells m p l = by-check tellsAnswer answer.Refused (λ r. refl) (pulseCheck m p l) _ refl ∙ pulse-given m p l
 
-found-none : (w : Found) → resolver.told (asResolved w) .refusal ≡ 0
+found-none : (w : Found) → tellsResolved (asResolved w) ≡ (0, 0)
 found-none (At k) = refl
 found-none Nothing = refl
 
-pub resolution-tells : (key care : ℕ) (m : Machine) → resolver.told (resolution key care m) .refusal ≡ first (machineTable m [])
+pub resolution-tells : (key care : ℕ) (m : Machine) → tellsResolved (resolution key care m) ≡ first (machineTable m [])
 unfolding resolution
 resolution-tells key care m =
-    by-check (λ (a : Resolved). resolver.told a .refusal) resolved.Refused (λ r. refl) (machineCheck m) _ (found-none (res.resolved key care m)) ∙ resolution-given m
+    by-check tellsResolved resolved.Refused (λ r. refl) (machineCheck m) _ (found-none (res.resolved key care m)) ∙ resolution-given m
 
-pub show-tells : (x : ℕ) (m : Machine) → resolver.told (showOf x m) .refusal ≡ first (unfitTable (noBit x) m)
+pub show-tells : (x : ℕ) (m : Machine) → tellsResolved (showOf x m) ≡ first (unfitTable (noBit x) m)
 unfolding showOf
-show-tells x m = by-check (λ (a : Resolved). resolver.told a .refusal) resolved.Refused (λ r. refl) (showCheck x m) _ (found-none (shown x m)) ∙ show-given x m
+show-tells x m = by-check tellsResolved resolved.Refused (λ r. refl) (showCheck x m) _ (found-none (shown x m)) ∙ show-given x m
 
-pub answer-tells : (x f : ℕ) (k : WordSlice) (m : Machine) → rounds.told (replyOf x f k m) .0 ≡ first (answerTable x f k m)
+pub answer-tells : (x f : ℕ) (k : WordSlice) (m : Machine) → rounds.told (replyOf x f k m) ≡ first (answerTable x f k m)
 unfolding replyOf
-answer-tells x f k m = by-check (λ (a : Reply). rounds.told a .0) reply.Refused (λ r. refl) (answerCheck x f k m) _ refl ∙ answer-given x f k m
+answer-tells x f k m = by-check rounds.told reply.Refused (λ r. refl) (answerCheck x f k m) _ refl ∙ answer-given x f k m
 
-pub round-tells : (x f : ℕ) (vs : List ℕ) (m : Machine) → whole.told (reportOf x f vs m) .refusal ≡ first (unfitTable (badBits x f) m)
+pub round-tells : (x f : ℕ) (vs : List ℕ) (m : Machine) → tellsReport (reportOf x f vs m) ≡ first (unfitTable (badBits x f) m)
 unfolding reportOf ended
-round-tells x f vs m = by-check (λ (a : Report). whole.told a .refusal) report.Refused (λ r. refl) (roundCheck x f m) _ refl ∙ round-given x f m
+round-tells x f vs m = by-check tellsReport report.Refused (λ r. refl) (roundCheck x f m) _ refl ∙ round-given x f m
 
 pub start-tells : (m : Machine) (h : Held) (o : Job) → tellsStarted (startOf m h o) ≡ first (unfitTable (isHeld h || badUsed (m .width) o) m)
 unfolding startOf
@@ -292,37 +306,37 @@ read-tells bs words responses = by-check tellsRead read.Refused (λ r. refl) (re
 
 -- ---- "Nothing lent changes": of every call that lends anything by &mut
 
-kept : {A : Type 0} (c : Check) (new old : A) → (given c ≡ 0 → ⊥) → changeBy c new old ≡ old
+kept : {A : Type 0} (c : Check) (new old : A) → (given c .0 ≡ 0 → ⊥) → changeBy c new old ≡ old
 kept Passed new old h = absurd (h refl)
 kept (Refused r) new old h = refl
 
-pub pulse-unchanged : (m : Machine) (p : Panel) (l : Lines) → (first (pulseTable m p l) ≡ 0 → ⊥) → after m p l ≡ m
+pub pulse-unchanged : (m : Machine) (p : Panel) (l : Lines) → (first (pulseTable m p l) .0 ≡ 0 → ⊥) → after m p l ≡ m
 unfolding after
-pulse-unchanged m p l h = kept (pulseCheck m p l) (pulsed m p l) m (λ e. h (sym (pulse-given m p l) ∙ e))
+pulse-unchanged m p l h = kept (pulseCheck m p l) (pulsed m p l) m (λ e. h (ap (λ (x : ℕ × ℕ). x .0) (sym (pulse-given m p l)) ∙ e))
 
-pub answer-unchanged : (x f : ℕ) (k : WordSlice) (v : Verdict) (m : Machine) → (first (answerTable x f k m) ≡ 0 → ⊥) → afterAnswer x f k v m ≡ m
+pub answer-unchanged : (x f : ℕ) (k : WordSlice) (v : Verdict) (m : Machine) → (first (answerTable x f k m) .0 ≡ 0 → ⊥) → afterAnswer x f k v m ≡ m
 unfolding afterAnswer
-answer-unchanged x f k v m h = kept (answerCheck x f k m) (answeredAt x f k v m) m (λ e. h (sym (answer-given x f k m) ∙ e))
+answer-unchanged x f k v m h = kept (answerCheck x f k m) (answeredAt x f k v m) m (λ e. h (ap (λ (x : ℕ × ℕ). x .0) (sym (answer-given x f k m)) ∙ e))
 
-pub round-unchanged : (x f : ℕ) (vs : List ℕ) (m : Machine) → (first (unfitTable (badBits x f) m) ≡ 0 → ⊥) → afterRound x f vs m ≡ m
+pub round-unchanged : (x f : ℕ) (vs : List ℕ) (m : Machine) → (first (unfitTable (badBits x f) m) .0 ≡ 0 → ⊥) → afterRound x f vs m ≡ m
 unfolding afterRound
-round-unchanged x f vs m h = kept (roundCheck x f m) _ m (λ e. h (sym (round-given x f m) ∙ e))
+round-unchanged x f vs m h = kept (roundCheck x f m) _ m (λ e. h (ap (λ (x : ℕ × ℕ). x .0) (sym (round-given x f m)) ∙ e))
 
-not-given : (c : Check) (m : Machine) (a : Stepped) → (given c ≡ 0 → ⊥) → machineAfter (answerBy c stepped.Refused a) m ≡ m
+not-given : (c : Check) (m : Machine) (a : Stepped) → (given c .0 ≡ 0 → ⊥) → machineAfter (answerBy c stepped.Refused a) m ≡ m
 not-given Passed m a h = absurd (h refl)
 not-given (Refused r) m a h = refl
 
-pub step-unchanged : (m : Machine) (h : Held) → (first (unfitTable (badStep (m .width) h) m) ≡ 0 → ⊥) → afterStep m h ≡ m
+pub step-unchanged : (m : Machine) (h : Held) → (first (unfitTable (badStep (m .width) h) m) .0 ≡ 0 → ⊥) → afterStep m h ≡ m
 unfolding afterStep stepOf
-step-unchanged m h g = not-given (stepCheck m h) m (gave m h) (λ e. g (sym (step-given m h) ∙ e))
+step-unchanged m h g = not-given (stepCheck m h) m (gave m h) (λ e. g (ap (λ (x : ℕ × ℕ). x .0) (sym (step-given m h)) ∙ e))
 
-pub write-unchanged : (s : State) (out : List ℕ) → (first (writeTable s (length out)) ≡ 0 → ⊥) → written s out ≡ out
+pub write-unchanged : (s : State) (out : List ℕ) → (first (writeTable s (length out)) .0 ≡ 0 → ⊥) → written s out ≡ out
 unfolding written
-write-unchanged s out h = kept (writeCheck s (length out)) _ out (λ e. h (sym (write-given s (length out)) ∙ e))
+write-unchanged s out h = kept (writeCheck s (length out)) _ out (λ e. h (ap (λ (x : ℕ × ℕ). x .0) (sym (write-given s (length out))) ∙ e))
 
-pub read-unchanged : (bs ws rs : List ℕ) → (first (readTable bs (length ws) (length rs)) ≡ 0 → ⊥) → (wordsRead bs ws rs ≡ ws) × (responsesRead bs ws rs ≡ rs)
+pub read-unchanged : (bs ws rs : List ℕ) → (first (readTable bs (length ws) (length rs)) .0 ≡ 0 → ⊥) → (wordsRead bs ws rs ≡ ws) × (responsesRead bs ws rs ≡ rs)
 unfolding wordsRead responsesRead
 read-unchanged bs ws rs h =
     let c = readCheck bs (length ws) (length rs) in
-    let g : given c ≡ 0 → ⊥ = λ e. h (sym (read-given bs (length ws) (length rs)) ∙ e) in
+    let g : given c .0 ≡ 0 → ⊥ = λ e. h (ap (λ (x : ℕ × ℕ). x .0) (sym (read-given bs (length ws) (length rs))) ∙ e) in
     (kept c _ ws g, kept c _ rs g)

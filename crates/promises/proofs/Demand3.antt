@@ -45,9 +45,9 @@ use Rattle.rounds.proofs.Handout.{handed-out}
 use Rattle.layout.specs.Format.{imageOf}
 use Rattle.hosts.specs.Images.{Stores, Resumes}
 use Rattle.hosts.specs.Stops.{Kept, In, Worked}
-use Rattle.hosts.specs.Rounds.{Responder, lower, Leaves, Apart, Phase, ready, showing, Entry, Hosted, Orderly, Shown}
+use Rattle.hosts.specs.Rounds.{Responder, lower, Leaves, Apart, Phase, ready, showing, Entry, Hosted, stops, Orderly, Shown}
 use Rattle.hosts.proofs.Images.{Typed}
-use Rattle.hosts.proofs.Jobs as stops
+use Rattle.hosts.proofs.Jobs as over-stops
 use Rattle.hosts.proofs.Jobs.{as-without-stops, goes-on, rest-ends}
 use Rattle.hosts.proofs.Rounds.{was-next, answerable, taken-is-shown, is-next, ends, over, faulty-has, done-has, others-have, in-order, none-skipped, storable-round, resumable}
 use Rattle.hosts.proofs.Leaving.{target-spares, lines-spare, step-spares, all-left}
@@ -137,7 +137,7 @@ module _ (m : Machine) (o : Job) (accepted : Accepted m o) (typed : Typed (recor
 
   -- the end and the total number of pulses are those without stops
   pub same-end : s .held ≡ Nothing → (k ≡ pulses m (first o)) × (s .machine ≡ ended m o)
-  same-end = stops.same-end m o accepted typed worked
+  same-end = over-stops.same-end m o accepted typed worked
 
   -- an adding job is never added twice
   pub scaled-added-once : kindOf (o .kind) ≡ scaledAdd → s .held ≡ Nothing → Adds o (λ w. o .c * valueOf (o .a) w) m (s .machine)
@@ -152,11 +152,11 @@ module _ (m : Machine) (o : Job) (accepted : Accepted m o) (typed : Typed (recor
   step-gives = goes-on m o accepted typed worked
 
   pub can-be-stored : (output : List ℕ) → length (imageOf s) ≤ length output → Stores s (imageOf s)
-  can-be-stored = stops.can-be-stored m o accepted typed worked
+  can-be-stored = over-stops.can-be-stored m o accepted typed worked
 
   pub can-be-resumed : (i : Kept) → In i images → (words responses : List ℕ) → length (m .words) ≤ length words → length (m .words) ≤ length responses
       → Resumes (i .image) (steps (i .pulses) (begun m o))
-  can-be-resumed = stops.can-be-resumed m o accepted typed worked
+  can-be-resumed = over-stops.can-be-resumed m o accepted typed worked
 
   pub rest-leads-there : steps (pulses m (first o) - k) s ≡ record { machine = ended m o; held = Nothing }
   rest-leads-there = rest-ends m o accepted typed worked
@@ -242,6 +242,12 @@ module _ (x f : ℕ) (b : State) (fine : bitsCheck (badBits x f) (b .machine) �
     others-have-f-as-before = others-have x f b fine typed hosted
 
   module _ {s : State} {image : List ℕ} {phase : Phase} {vs : List Verdict} {book : List Entry} (hosted : Hosted x f b s image phase vs book) where
+    -- "From an older image the round is the one that stood then": wherever the round went on to after `hosted`, from the image that was the last
+    -- there it shows the responder that was the next then
+    pub from-older-image : {t : State} → Resumes image t → (k : ℕ) → Responder x (b .machine) k → lower x (b .machine) k ≡ length vs
+        → showOf x (t .machine) ≡ resolved.At (record { 0 = k })
+    from-older-image resumes = next-is-shown (stops hosted resumes)
+
     -- "never skipped, at most one twice at each stop": each word shown was the next responder or, after a stop, the last one again (`Orderly`)
     pub shown-in-order : (many : ℕ) × ((length vs ≤ many) × (many ≤ length vs + 1) × Orderly x (b .machine) book many)
     shown-in-order = in-order x f b fine typed hosted
