@@ -7,9 +7,9 @@ use mathlib.Core.List.{List}
 use native.Mathlib.Omega.{arith}
 use lib.ListN.{getD, set}
 use Rattle.laws.specs.Bits.{pick, digit}
-use Rattle.resolver.proofs.Lowest.{LowestAt}
+use Rattle.resolver.specs.Answers.{LowestAt}
 use Rattle.rounds.specs.Round.{has, answered}
-use Rattle.rounds.proofs.Passing.{Fit}
+use Rattle.rounds.specs.Round.{Fit}
 use Rattle.rounds.proofs.Answering.{lost}
 use Rattle.handout.specs.Whole.{saysDone, verdictBy, each, tally, worked, isDone, isFaulty}
 use Rattle.handout.proofs.Lists.{each-at, tally-at}

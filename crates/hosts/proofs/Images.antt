@@ -25,14 +25,11 @@ use Rattle.image.specs.declared.Read.the-variants as read
 use Rattle.layout.specs.Format.{imageOf}
 use Rattle.layout.specs.Reading.{wordsIn, scanned, stateIn}
 use Rattle.image.specs.Calls.{badJob, writeCheck, writeOf, written, refuseBytes, readCheck, readOf, wordsRead, responsesRead}
-use Rattle.layout.proofs.Bytes.{AreBytes, length-numbers}
-use Rattle.image.proofs.RoundTrip.{ConstantFits, Stored, plain, roundTrip}
+use Rattle.layout.proofs.Bytes.{length-numbers}
+use Rattle.image.proofs.RoundTrip.{plain, roundTrip}
+use Rattle.image.specs.Calls.{Stored}
 use Rattle.hosts.specs.Images.{Stores, Resumes}
-
--- what the types of the buffers and of the job say: responses are bytes, c is a number of 64 bits
-pub record Typed (s : State) : Type 0 where
-  pub responses : AreBytes (s .machine .responses)
-  pub constant : ConstantFits (s .held)
+use Rattle.hosts.specs.Images.{Typed}
 
 -- the first of what was stored at the beginning
 first-of-sets : (xs l : List ℕ) (n : ℕ) → n ≡ length xs → length xs ≤ length l → take n (sets l 0 xs) ≡ xs

@@ -30,11 +30,12 @@ use Rattle.ends.proofs.Machines.{words-length}
 use Rattle.ends.proofs.Ends.{course, not-over, stays-over}
 use Rattle.layout.specs.Format.{imageOf}
 use Rattle.image.specs.Calls.{badJob}
-use Rattle.image.proofs.RoundTrip.{Stored}
+use Rattle.image.specs.Calls.{Stored}
 use Rattle.hosts.specs.Images.{Stores, Resumes}
 use Rattle.hosts.specs.Stops as stops
 use Rattle.hosts.specs.Stops.{Kept, In, here, there, Worked}
-use Rattle.hosts.proofs.Images.{Typed, stored-image, can-store, resumed-machine, can-resume}
+use Rattle.hosts.proofs.Images.{stored-image, can-store, resumed-machine, can-resume}
+use Rattle.hosts.specs.Images.{Typed}
 use Rattle.hosts.proofs.Typed.{first-fits, stepped-typed}
 
 -- a step while none is held gives nothing

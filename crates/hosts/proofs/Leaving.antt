@@ -35,10 +35,10 @@ use Rattle.ends.proofs.Machines.{passes, same, response-at, responses-length}
 use Rattle.ends.proofs.Starts.{accepted-is}
 use Rattle.rounds.specs.Handout.{response}
 use Rattle.rounds.proofs.Marks.{mask-else}
-use Rattle.rounds.proofs.Passing.{Fit}
+use Rattle.rounds.specs.Round.{Fit}
 use Rattle.hosts.specs.Rounds as events
 use Rattle.hosts.specs.Rounds.{Other, Leaves, ApartFor, Apart}
-use Rattle.hosts.proofs.Images.{Typed}
+use Rattle.hosts.specs.Images.{Typed}
 use Rattle.hosts.proofs.Typed.{pulsed-bytes, first-fits, stepped-typed}
 use Rattle.hosts.proofs.Fits.{pulsed-passes}
 

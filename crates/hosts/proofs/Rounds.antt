@@ -26,7 +26,8 @@ use Rattle.rounds.specs.declared.Verdict.the-variants.{Done, Faulty}
 use Rattle.rounds.specs.declared.Reply.the-variants as reply
 use Rattle.rounds.specs.Round.{badBits, bitsCheck, shown, showCheck, showOf, answerCheck, replyOf}
 use Rattle.rounds.specs.Handout.{responders, responder, response, NotAmong, firstOf}
-use Rattle.rounds.proofs.Passing.{Fit, acceptable, accepted}
+use Rattle.rounds.proofs.Passing.{acceptable, accepted}
+use Rattle.rounds.specs.Round.{Fit}
 use Rattle.rounds.proofs.Responders.{first-of-rest}
 use Rattle.rounds.proofs.Handout.{HandedOut, handed-out}
 use Rattle.jobs.specs.Runs.{State}
@@ -34,7 +35,8 @@ use Rattle.layout.specs.Format.{imageOf}
 use Rattle.hosts.specs.Images.{Stores, Resumes}
 use Rattle.hosts.specs.Rounds as events
 use Rattle.hosts.specs.Rounds.{Responder, lower, Phase, ready, showing, answered, pending, settled, Entry, Hosted, Again, Orderly, Shown}
-use Rattle.hosts.proofs.Images.{Typed, can-store, can-resume}
+use Rattle.hosts.proofs.Images.{can-store, can-resume}
+use Rattle.hosts.specs.Images.{Typed}
 use Rattle.hosts.proofs.Shadow.{shadow-responders, shadow-shown, shadow-fault}
 use Rattle.hosts.proofs.Counting.{responder-at, responder-is, first-left, none-left, left-none}
 use Rattle.hosts.proofs.Standing.{taken-passed, none-by, fit, shade, Kept, Standing, standing}

@@ -25,7 +25,8 @@ use Rattle.rounds.specs.declared.Verdict.the-variants.{Done, Faulty}
 use Rattle.rounds.specs.Round.{has, shown, put, answered, answeredAt, badBits, bitsCheck, answerCheck, afterAnswer}
 use Rattle.rounds.specs.Handout.{numbersWith, responders, response}
 use Rattle.rounds.proofs.Marks.{put-bit}
-use Rattle.rounds.proofs.Passing.{Fit, acceptable, accepted}
+use Rattle.rounds.proofs.Passing.{acceptable, accepted}
+use Rattle.rounds.specs.Round.{Fit}
 use Rattle.rounds.proofs.Answering.{same-checks}
 use Rattle.hosts.specs.Rounds.{Leaves}
 

@@ -27,16 +27,18 @@ use Rattle.rounds.specs.Round as round
 use Rattle.rounds.specs.Round.{put, badBits, bitsCheck, shown, showCheck, showOf, answeredAt, answerCheck, replyOf, afterAnswer}
 use Rattle.rounds.specs.Handout.{response, Answers, none-yet, one-more}
 use Rattle.rounds.proofs.Marks.{put-lt}
-use Rattle.rounds.proofs.Passing.{Fit, bits-fit}
+use Rattle.rounds.proofs.Passing.{bits-fit}
+use Rattle.rounds.specs.Round.{Fit}
 use Rattle.rounds.proofs.Handout.{refused-nothing}
 use Rattle.jobs.specs.Runs.{State}
 use Rattle.layout.specs.Format.{imageOf}
-use Rattle.layout.proofs.Bytes.{AreBytes}
-use Rattle.image.proofs.RoundTrip.{Stored}
+use Rattle.layout.specs.Format.{AreBytes}
+use Rattle.image.specs.Calls.{Stored}
 use Rattle.hosts.specs.Images.{Stores, Resumes}
 use Rattle.hosts.specs.Rounds as events
 use Rattle.hosts.specs.Rounds.{Other, Leaves, Phase, ready, showing, answered, pending, settled, Entry, Hosted}
-use Rattle.hosts.proofs.Images.{Typed, stored-image, resumed-machine}
+use Rattle.hosts.proofs.Images.{stored-image, resumed-machine}
+use Rattle.hosts.specs.Images.{Typed}
 use Rattle.hosts.proofs.Shadow.{shadow, shadow-shown, shadow-left, shadow-taken, shadow-after}
 use Rattle.hosts.proofs.Leaving.{other-passes, other-typed}
 use Rattle.hosts.proofs.Staying.{other-job}

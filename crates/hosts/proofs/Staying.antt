@@ -30,10 +30,10 @@ use Rattle.jobs.specs.Runs.{State, heldAfter, stepped, steps}
 use Rattle.ends.specs.Ends.{Accepted}
 use Rattle.ends.proofs.Starts.{accepted-is}
 use Rattle.image.specs.Calls.{badJob}
-use Rattle.layout.proofs.Bytes.{AreBytes}
+use Rattle.layout.specs.Format.{AreBytes}
 use Rattle.hosts.specs.Rounds as events
 use Rattle.hosts.specs.Rounds.{Other}
-use Rattle.hosts.proofs.Images.{Typed}
+use Rattle.hosts.specs.Images.{Typed}
 use Rattle.hosts.proofs.Leaving.{accepted-pulse, accepted-step}
 use Rattle.hosts.proofs.Jobs.{storable}
 

@@ -25,9 +25,9 @@ use Rattle.jobs.specs.Calls.{stepCheck, gave, stepOf, machineAfter, afterStep}
 use Rattle.jobs.specs.Runs.{State, heldAfter, stepped}
 use Rattle.machine.specs.declared.Check.{Check}
 use Rattle.machine.specs.declared.Check.the-variants as check
-use Rattle.layout.proofs.Bytes.{AreBytes}
-use Rattle.image.proofs.RoundTrip.{ConstantFits}
-use Rattle.hosts.proofs.Images.{Typed}
+use Rattle.layout.specs.Format.{AreBytes}
+use Rattle.image.specs.Calls.{ConstantFits}
+use Rattle.hosts.specs.Images.{Typed}
 
 -- ---- responses
 

@@ -1,5 +1,6 @@
 -- Document 01, 'The image': storing and resuming, as a host does them by the calls `write` and `read`.
 -- Assumes nothing.
+use Rattle.layout.specs.Format.{AreBytes}
 use Prim.Native.Nat.{ℕ}
 use mathlib.Core.Path.{_≡_}
 use mathlib.Core.List.{List}
@@ -9,7 +10,7 @@ use Rattle.plans.specs.declared.Held.{Held}
 use Rattle.jobs.specs.Runs.{State}
 use Rattle.image.specs.declared.Wrote.the-variants as wrote
 use Rattle.image.specs.declared.Read.the-variants as read
-use Rattle.image.specs.Calls.{writeOf, written, readOf, wordsRead, responsesRead}
+use Rattle.image.specs.Calls.{writeOf, written, readOf, wordsRead, responsesRead, ConstantFits}
 
 -- the host stores: writing is accepted, and the image is the first n bytes of the output, whatever that held before
 pub record Stores (s : State) (image : List ℕ) : Type 0 where
@@ -28,3 +29,8 @@ pub record Resumes (image : List ℕ) (s : State) : Type 0 where
   pub held : Held
   pub accepted : readOf image (length words) (length responses) ≡ read.Machine width size held
   pub stands : s ≡ record { machine = machine width (take size (wordsRead image words responses)) (take size (responsesRead image words responses)); held = held }
+
+-- what the types of the buffers and of the job say: responses are bytes, c is a number of 64 bits
+pub record Typed (s : State) : Type 0 where
+  pub responses : AreBytes (s .machine .responses)
+  pub constant : ConstantFits (s .held)

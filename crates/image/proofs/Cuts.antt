@@ -14,10 +14,12 @@ use borrow.Author.Tests.{lt-ltb, le-ltb, ltb-true, ltb-false, eqb-true}
 use Rattle.laws.specs.Bits.{pick}
 use Rattle.layout.specs.declared.Scanned.the-variants.{Sound, Broken}
 use Rattle.jobs.specs.Runs.{State}
-use Rattle.layout.specs.Format.{value, byte, imageOf}
+use Rattle.layout.specs.Format.{value, imageOf}
 use Rattle.layout.specs.Reading.{Field, scan, countIs, wordCount, widthByte, wordField, responseField, jobCount, jobField, widthIn, wordsIn, jobsIn, fieldsOf, scanned}
 use Rattle.layout.proofs.Bytes.{drop-take}
-use Rattle.image.proofs.RoundTrip.{Stored, image-sound}
+use Rattle.image.proofs.RoundTrip.{image-sound}
+use Rattle.image.specs.Calls.{Stored}
+use Rattle.layout.specs.Reading.{startOf}
 
 -- ---- every place is within the bytes
 
@@ -42,11 +44,6 @@ unfolding scanned
 within b p h = omega (arith, scan-within (fieldsOf b) 0 p b h)
 
 -- ---- a prefix
-
--- of fields that begin at this place, the start of the one that has the byte at offset k
-unfoldable pub startOf : List Field → ℕ → ℕ → ℕ
-startOf [] at k = at
-startOf (f ∷ fs) at k = pick (ltb k (at + f .size)) at (startOf fs (at + f .size) k)
 
 prefix : (fs : List Field) (at k : ℕ) (b : List ℕ) → scan fs at b ≡ Sound → k < length b → scan fs at (take k b) ≡ Broken (startOf fs at (at + k))
 unfolding scan startOf

@@ -12,8 +12,7 @@ use lib.Pow.{pow-mono}
 use lib.Seq.{take-at, drop-at, drop-drop}
 use borrow.Author.Tests.{le-leb, eq-eqb, ltb-false, eqb-false}
 use Rattle.laws.specs.Bits.{pick}
-use Rattle.machine.specs.declared.Check.the-variants.{Passed}
-use Rattle.machine.specs.Refusals.{badSize, badWidth, machineCheck}
+use Rattle.machine.specs.Refusals.{badSize, badWidth}
 use Rattle.machine.proofs.Checks as checks
 use Rattle.plans.specs.declared.Job.{Job}
 use Rattle.plans.specs.declared.Held.{Held}
@@ -25,22 +24,12 @@ use Rattle.layout.specs.Format.{bytes, value, items, section, jobBytes, jobOf, 
 use Rattle.layout.specs.Reading.{Field, scan, countIs, wordCount, widthByte, wordField, responseField, jobCount, jobField, widthIn, wordsIn, jobsAt, jobsIn, heldIn, fieldsOf, scanned, numbers, stateIn}
 use Rattle.image.specs.Calls.{badJob}
 use Rattle.stores.specs.Stored.{machineBytes}
-use Rattle.layout.proofs.Bytes.{Under, AreBytes, under-more, length-bytes, length-items, value-bytes, length-job, job-back}
+use Rattle.layout.proofs.Bytes.{under-more, length-bytes, length-items, value-bytes, length-job, job-back}
+use Rattle.layout.specs.Format.{Under, AreBytes}
 use Rattle.image.proofs.WriteCalls.{whole, length-machine, same-size}
 use Rattle.layout.proofs.Bytes.{zero-picks, other-picks}
 use Rattle.image.proofs.Sections.{passed, words-pass, responses-pass, numbers-back, all-fit}
-
--- c is a number of 64 bits
-abbrev pub ConstantFits : Held → Type 0
-ConstantFits Nothing = Unit {0}
-ConstantFits (Holds o) = o .c < 2 ^ 64
-
--- a machine and its job that pass the checks of writing but room; responses are bytes, as their type has it
-pub record Stored (s : State) : Type 0 where
-  pub machine : machineCheck (s .machine) ≡ Passed
-  pub job : badJob (s .machine .width) (s .held) ≡ false
-  pub responses : AreBytes (s .machine .responses)
-  pub constant : ConstantFits (s .held)
+use Rattle.image.specs.Calls.{ConstantFits, Stored}
 
 -- ---- what the checks show, as plain facts
 

@@ -18,7 +18,8 @@ use Rattle.machine.specs.Refusals.{tooWide}
 use Rattle.layout.specs.declared.Scanned.the-variants.{Sound, Broken}
 use Rattle.layout.specs.Format.{bytes, value, items, jobBytes, jobOf}
 use Rattle.layout.specs.Reading.{Field, scan, wordField, responseField, numbers}
-use Rattle.layout.proofs.Bytes.{Under, AreBytes, under-take, under-drop, length-bytes, value-bytes, bytes-value, job-law}
+use Rattle.layout.proofs.Bytes.{under-take, under-drop, length-bytes, value-bytes, bytes-value, job-law}
+use Rattle.layout.specs.Format.{Under, AreBytes}
 use Rattle.parts.proofs.Scans.{next}
 
 -- ---- written: a field that is right is passed

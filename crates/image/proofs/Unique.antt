@@ -24,11 +24,13 @@ use Rattle.layout.specs.declared.Scanned.the-variants.{Sound}
 use Rattle.layout.specs.Format.{bytes, value, items, section, jobBytes, jobOf, heldJobs, imageOf}
 use Rattle.layout.specs.Reading.{scan, countIs, wordCount, widthByte, wordField, responseField, jobCount, jobField, widthIn, wordsIn, jobsAt, jobsIn, heldIn, fieldsOf, scanned, numbers, stateIn}
 use Rattle.image.specs.Calls.{badJob}
-use Rattle.layout.proofs.Bytes.{Under, AreBytes, under-drop, under-take, length-numbers, value-one}
+use Rattle.layout.proofs.Bytes.{under-drop, under-take, length-numbers, value-one}
+use Rattle.layout.specs.Format.{Under, AreBytes}
 use Rattle.parts.proofs.Scans.{next, run}
 use Rattle.layout.proofs.Bytes.{zero-picks, other-picks}
 use Rattle.image.proofs.Sections.{number-cut, items-cut, job-cut, words-held, none-wide, nothing-left}
-use Rattle.image.proofs.RoundTrip.{ConstantFits, Stored, flat}
+use Rattle.image.proofs.RoundTrip.{flat}
+use Rattle.image.specs.Calls.{ConstantFits, Stored}
 
 -- ---- what sound bytes show, field by field
 

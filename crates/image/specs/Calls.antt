@@ -1,13 +1,13 @@
 -- Document 01, 'The image': what writing and reading answer, and what they leave in what is lent.
 -- "writing an image for 1 to 3, 8 and 10; reading one for 9 and 10"
 -- Assumes nothing.
-use Prim.Native.Nat.{ℕ}
-use mathlib.Core.Bool.{Bool, true, false, _||_}
+use mathlib.Core.Path.{_≡_}
+use Prim.Native.Nat.{ℕ, _^_, _<_}
+use mathlib.Core.Bool.{Bool, false, _||_}
 use mathlib.Core.List.{List}
 use lib.Dec.{ltb}
 use lib.ListN.{length}
 use lib.Seq.{sets}
-use Rattle.laws.specs.Bits.{pick}
 use Rattle.machine.specs.declared.Check.{Check}
 use Rattle.machine.specs.declared.Check.the-variants as check
 use Rattle.machine.specs.declared.Refusal.the-variants.{Unfit, Malformed, NoRoom}
@@ -23,7 +23,7 @@ use Rattle.image.specs.declared.Read.{Read}
 use Rattle.image.specs.declared.Read.the-variants as read
 use Rattle.layout.specs.declared.Scanned.{Scanned}
 use Rattle.layout.specs.declared.Scanned.the-variants.{Sound, Broken}
-use Rattle.layout.specs.Format.{imageOf}
+use Rattle.layout.specs.Format.{imageOf, AreBytes}
 use Rattle.layout.specs.Reading.{wordsIn, scanned, stateIn}
 
 -- ---- writing
@@ -67,3 +67,17 @@ wordsRead bs ws rs = changeBy (readCheck bs (length ws) (length rs)) (sets ws 0 
 
 unfoldable pub responsesRead : List ℕ → List ℕ → List ℕ → List ℕ
 responsesRead bs ws rs = changeBy (readCheck bs (length ws) (length rs)) (sets rs 0 (stateIn bs .machine .responses)) rs
+
+-- ---- words of the theorems
+
+-- c is a number of 64 bits
+abbrev pub ConstantFits : Held → Type 0
+ConstantFits Nothing = Unit {0}
+ConstantFits (Holds o) = o .c < 2 ^ 64
+
+-- a machine and its job that pass the checks of writing but room; responses are bytes, as their type has it
+pub record Stored (s : State) : Type 0 where
+  pub machine : machineCheck (s .machine) ≡ check.Passed
+  pub job : badJob (s .machine .width) (s .held) ≡ false
+  pub responses : AreBytes (s .machine .responses)
+  pub constant : ConstantFits (s .held)

@@ -16,15 +16,9 @@ use Rattle.plans.specs.declared.Job.{Job}
 use Rattle.plans.specs.declared.Span.{Span}
 use Rattle.layout.specs.Format.{bytes, value, items, byte, spanAt, jobOf, jobBytes}
 use Rattle.layout.specs.Reading.{numbers}
+use Rattle.layout.specs.Format.{Under, AreBytes}
 
 -- ---- lists of bytes
-
-abbrev pub Under : ℕ → List ℕ → Type 0
-Under lim [] = Unit {0}
-Under lim (x ∷ xs) = (x < lim) × Under lim xs
-
-abbrev pub AreBytes : List ℕ → Type 0
-AreBytes bs = Under 256 bs
 
 pub under-take : (lim k : ℕ) (s : List ℕ) → Under lim s → Under lim (take k s)
 under-take lim zero s u = tt

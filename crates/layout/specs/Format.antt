@@ -1,9 +1,8 @@
 -- Document 01, 'The image': the bytes of a machine and its held job.
 -- Assumes nothing.
-use Prim.Native.Nat.{ℕ, zero, suc, _+_, _*_, _/_, _%_}
+use Prim.Native.Nat.{ℕ, zero, suc, _+_, _*_, _/_, _%_, _<_}
 use mathlib.Core.List.{List, [], _∷_, _++_}
 use lib.ListN.{length, drop, getD}
-use Rattle.machine.specs.Machine.{Machine}
 use Rattle.plans.specs.declared.Span.{Span}
 use Rattle.plans.specs.declared.Job.{Job}
 use Rattle.plans.specs.Fields.{job}
@@ -60,3 +59,14 @@ imageOf s =
     ++ (section (bytes 8) (s .machine .words)
     ++ (section (bytes 1) (s .machine .responses)
     ++ section jobBytes (heldJobs (s .held))))
+
+-- ---- words of the theorems
+
+-- each is below the limit
+abbrev pub Under : ℕ → List ℕ → Type 0
+Under lim [] = Unit {0}
+Under lim (x ∷ xs) = (x < lim) × Under lim xs
+
+-- each is a byte
+abbrev pub AreBytes : List ℕ → Type 0
+AreBytes bs = Under 256 bs

@@ -3,12 +3,11 @@
 -- too many."
 -- Assumes nothing.
 use Prim.Native.Nat.{ℕ, zero, suc, _+_, _*_}
-use mathlib.Core.Bool.{Bool, true, false, not, _&&_}
+use mathlib.Core.Bool.{Bool, true, not, _&&_}
 use mathlib.Core.List.{List, [], _∷_, _++_}
 use lib.Dec.{ltb, leb, eqb}
-use lib.ListN.{length, take, drop, getD, replicate}
+use lib.ListN.{length, take, drop, replicate}
 use Rattle.laws.specs.Bits.{pick}
-use Rattle.machine.specs.Machine.{Machine}
 use Rattle.machine.specs.Refusals.{badWidth, tooWide}
 use Rattle.plans.specs.declared.Held.{Held}
 use Rattle.plans.specs.declared.Held.the-variants.{Nothing, Holds}
@@ -93,3 +92,10 @@ heldIn bs = pick (eqb (jobsIn bs) 0) Nothing (Holds (jobOf (take 22 (drop (jobsA
 unfoldable pub stateIn : List ℕ → State
 stateIn bs =
     state (widthIn bs) (numbers 8 (wordsIn bs) (drop 9 bs)) (numbers 1 (wordsIn bs) (drop (13 + 8 * wordsIn bs) bs)) (heldIn bs)
+
+-- ---- words of the theorems
+
+-- of fields that begin at this place, the start of the one that has the byte at offset k
+unfoldable pub startOf : List Field → ℕ → ℕ → ℕ
+startOf [] at k = at
+startOf (f ∷ fs) at k = pick (ltb k (at + f .size)) at (startOf fs (at + f .size) k)

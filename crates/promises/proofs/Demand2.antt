@@ -35,10 +35,12 @@ use Rattle.jobs.specs.Runs.{State}
 use Rattle.layout.specs.declared.Scanned.the-variants.{Sound, Broken}
 use Rattle.layout.specs.Format.{imageOf}
 use Rattle.layout.specs.Reading.{scanned, fieldsOf, stateIn}
-use Rattle.layout.proofs.Bytes.{AreBytes}
-use Rattle.image.proofs.RoundTrip.{Stored, roundTrip, injective}
+use Rattle.layout.specs.Format.{AreBytes}
+use Rattle.image.proofs.RoundTrip.{roundTrip, injective}
+use Rattle.image.specs.Calls.{Stored}
 use Rattle.image.proofs.Unique.{one-image, stored-again}
-use Rattle.image.proofs.Cuts.{startOf, within, image-cut-off}
+use Rattle.image.proofs.Cuts.{within, image-cut-off}
+use Rattle.layout.specs.Reading.{startOf}
 use Rattle.cells.proofs.pulse as plain
 use Rattle.cells.proofs.pulse.Kinds as plain-kinds
 use Rattle.cells.proofs.pulse.Reads as plain-reads
@@ -47,7 +49,8 @@ use Rattle.resolver.proofs.scan as scan
 use Rattle.resolver.proofs.scan.Kinds as scan-kinds
 use Rattle.resolver.proofs.scan.Reads as scan-reads
 use Rattle.resolver.proofs.network.Reads as network-reads
-use Rattle.resolver.proofs.Lowest.{NonePasses, LowestAt, resolved-none, resolved-word}
+use Rattle.resolver.proofs.Lowest.{resolved-none, resolved-word}
+use Rattle.resolver.specs.Answers.{NonePasses, LowestAt}
 
 marked-digit : (t : ℕ) (b : Bool) {r : ℕ} → r < 2 → pick (eqb t 1) (digit b) r < 2
 marked-digit t b h = go (eqb t 1) b h

@@ -40,13 +40,13 @@ use Rattle.rounds.specs.declared.Verdict.the-variants.{Done, Faulty}
 use Rattle.rounds.specs.declared.Reply.the-variants as reply
 use Rattle.rounds.specs.Round.{badBits, bitsCheck, shown, showOf, replyOf}
 use Rattle.rounds.specs.Handout.{responders, responder, response, NotAmong, firstOf, Answers}
-use Rattle.rounds.proofs.Passing.{Fit}
+use Rattle.rounds.specs.Round.{Fit}
 use Rattle.rounds.proofs.Handout.{handed-out}
 use Rattle.layout.specs.Format.{imageOf}
 use Rattle.hosts.specs.Images.{Stores, Resumes}
 use Rattle.hosts.specs.Stops.{Kept, In, Worked}
 use Rattle.hosts.specs.Rounds.{Responder, lower, Leaves, Apart, Phase, ready, showing, Entry, Hosted, stops, Orderly, Shown}
-use Rattle.hosts.proofs.Images.{Typed}
+use Rattle.hosts.specs.Images.{Typed}
 use Rattle.hosts.proofs.Jobs as over-stops
 use Rattle.hosts.proofs.Jobs.{as-without-stops, goes-on, rest-ends}
 use Rattle.hosts.proofs.Rounds.{was-next, answerable, taken-is-shown, is-next, ends, over, faulty-has, done-has, others-have, in-order, none-skipped, storable-round, resumable}

@@ -6,22 +6,13 @@ use mathlib.Core.Path.{_≡_, refl, ap, _∙_}
 use mathlib.Core.Bool.{Bool, true, false}
 use mathlib.Core.List.{List, [], _∷_}
 use native.Mathlib.Omega.{arith}
-use lib.ListN.{length, getD}
+use lib.ListN.{getD}
 use Rattle.laws.specs.Bits.{pick}
 use Rattle.machine.specs.declared.WordSlice.{WordSlice}
 use Rattle.machine.specs.declared.Found.the-variants.{At, Nothing}
 use Rattle.machine.specs.Machine.{Machine, selected}
 use Rattle.machine.specs.Resolution.{lowest, resolved}
-
--- no element passes
-abbrev pub NonePasses : (ℕ → Bool) → List ℕ → Type 0
-NonePasses test xs = (i : ℕ) → i < length xs → test (getD xs i 0) ≡ false
-
--- element i passes, and no lower one does
-pub record LowestAt (test : ℕ → Bool) (xs : List ℕ) (i : ℕ) : Type 0 where
-  pub within : i < length xs
-  pub passes : test (getD xs i 0) ≡ true
-  pub none-lower : (j : ℕ) → j < i → test (getD xs j 0) ≡ false
+use Rattle.resolver.specs.Answers.{NonePasses, LowestAt}
 
 -- two answers of a test
 apart : {A : Type 0} {b : Bool} → b ≡ true → b ≡ false → A

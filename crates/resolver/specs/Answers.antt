@@ -1,6 +1,10 @@
 -- Document 01, 'One pulse', Resolution, and 'Numbers given when a call is turned down': what resolving answers.
 -- Assumes nothing.
-use Prim.Native.Nat.{ℕ}
+use lib.ListN.{length, getD}
+use mathlib.Core.List.{List}
+use mathlib.Core.Bool.{Bool, true, false}
+use mathlib.Core.Path.{_≡_}
+use Prim.Native.Nat.{ℕ, _<_}
 use Rattle.machine.specs.declared.Found.{Found}
 use Rattle.machine.specs.declared.Found.the-variants as found
 use Rattle.machine.specs.Machine.{Machine}
@@ -30,3 +34,15 @@ abbrev pub told : Resolved → Told
 told (At k) = record { refusal = 0; also = 0; found = 1; word = k .0 }
 told Nothing = record { refusal = 0; also = 0; found = 0; word = 0 }
 told (Refused r) = record { refusal = numberOf r; also = alsoAnswers r; found = 0; word = 0 }
+
+-- ---- words of the theorems
+
+-- no element passes
+abbrev pub NonePasses : (ℕ → Bool) → List ℕ → Type 0
+NonePasses test xs = (i : ℕ) → i < length xs → test (getD xs i 0) ≡ false
+
+-- element i passes, and no lower one does
+pub record LowestAt (test : ℕ → Bool) (xs : List ℕ) (i : ℕ) : Type 0 where
+  pub within : i < length xs
+  pub passes : test (getD xs i 0) ≡ true
+  pub none-lower : (j : ℕ) → j < i → test (getD xs j 0) ≡ false

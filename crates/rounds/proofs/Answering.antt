@@ -16,7 +16,7 @@ use Rattle.rounds.specs.declared.Verdict.{Verdict}
 use Rattle.rounds.specs.declared.Verdict.the-variants.{Done, Faulty}
 use Rattle.rounds.specs.Round.{has, put, answered, bitsCheck}
 use Rattle.rounds.proofs.Marks.{put-here, put-else}
-use Rattle.rounds.proofs.Passing.{Fit}
+use Rattle.rounds.specs.Round.{Fit}
 
 -- X is 0 afterwards
 pub answered-mark : (x f : ℕ) (v : Verdict) (r : ℕ) → Fit x f → bit (answered x f v r) x ≡ 0

@@ -3,7 +3,7 @@
 use Prim.Native.Nat.{ℕ, _+_, _≤_, _<_}
 use mathlib.Core.Path.{_≡_, refl, sym, ap, ap₂, _∙_}
 use mathlib.Core.Bool.{true, false}
-use mathlib.Core.Logic.{_⊎_, ⊎-elim}
+use mathlib.Core.Logic.{⊎-elim}
 use mathlib.Core.List.{List, [], _∷_, _++_}
 use native.Mathlib.Omega.{arith}
 use lib.ListN.{length, getD, drop, length-append, length-set, List·getD-append}
@@ -16,7 +16,8 @@ use Rattle.rounds.specs.declared.Verdict.{Verdict}
 use Rattle.rounds.specs.declared.Verdict.the-variants.{Done}
 use Rattle.rounds.specs.Round.{has, shown, answered, answeredAt, afterAnswer}
 use Rattle.rounds.specs.Handout.{responders, responder, response, NotAmong, firstOf, Answers, none-yet, one-more}
-use Rattle.rounds.proofs.Passing.{Fit, Accepted, accepted}
+use Rattle.rounds.proofs.Passing.{Accepted, accepted}
+use Rattle.rounds.specs.Round.{Fit}
 use Rattle.rounds.proofs.Answering.{lost, answered-else}
 use Rattle.rounds.proofs.Responders.{first-lowest, first-off, first-of-rest}
 

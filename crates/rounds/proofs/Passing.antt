@@ -17,11 +17,13 @@ use Rattle.machine.specs.declared.Check.{Check}
 use Rattle.machine.specs.declared.Check.the-variants.{Passed, Refused}
 use Rattle.machine.specs.Machine.{Machine, responseBits}
 use Rattle.machine.specs.Refusals.{machineCheck, _else_, refuse, answerBy, changeBy}
-use Rattle.resolver.proofs.Lowest.{LowestAt, found-exactly}
+use Rattle.resolver.proofs.Lowest.{found-exactly}
+use Rattle.resolver.specs.Answers.{LowestAt}
 use Rattle.resolver.proofs.Sizes.{first-passed, rest-passed, not-refused, neither-left, neither-right}
 use Rattle.rounds.specs.declared.Verdict.{Verdict}
 use Rattle.rounds.specs.declared.Reply.the-variants as reply
 use Rattle.rounds.specs.Round.{has, shown, answered, answeredAt, noBit, badBits, otherThan, bitsCheck, answerCheck, replyOf, afterAnswer}
+use Rattle.rounds.specs.Round.{Fit}
 
 -- ---- a chain of two, as the code takes it apart: c is the first check's result, t the test of the second
 module _ (c e : Check) (r : Refusal) (t : Bool) (h : c ≡ e) where
@@ -39,11 +41,6 @@ module _ (c e : Check) (r : Refusal) (t : Bool) (h : c ≡ e) where
 pub bit-fits : (x : ℕ) (m : Machine) → bitsCheck (noBit x) m ≡ Passed → x < responseBits
 unfolding bitsCheck
 bit-fits x m h = leb-false responseBits x (not-refused Unfit (noBit x) (rest-passed (machineCheck m) (refuse Unfit (noBit x)) h))
-
-pub record Fit (x f : ℕ) : Type 0 where
-  pub mark : x < responseBits
-  pub fault : f < responseBits
-  pub differ : x ≡ f → ⊥
 
 fit-by : (x f : ℕ) → badBits x f ≡ false → Fit x f
 fit-by x f h =

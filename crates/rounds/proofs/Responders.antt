@@ -10,7 +10,7 @@ use Rattle.laws.specs.Bits.{pick}
 use Rattle.machine.specs.declared.WordSlice.{WordSlice}
 use Rattle.machine.specs.declared.Found.the-variants.{At}
 use Rattle.machine.specs.Resolution.{lowest}
-use Rattle.resolver.proofs.Lowest.{LowestAt}
+use Rattle.resolver.specs.Answers.{LowestAt}
 use Rattle.rounds.specs.Round.{has}
 use Rattle.rounds.specs.Handout.{numbersWith, firstOf}
 

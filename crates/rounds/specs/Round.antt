@@ -1,6 +1,7 @@
 -- Document 01, 'The hand-out round': show and answer.
 -- Assumes nothing.
-use Prim.Native.Nat.{ℕ}
+use mathlib.Core.Path.{_≡_}
+use Prim.Native.Nat.{ℕ, _<_}
 use mathlib.Core.Bool.{Bool, true, not, _||_}
 use lib.Dec.{leb, eqb}
 use lib.ListN.{getD, set}
@@ -89,3 +90,11 @@ afterAnswer x f k v m = changeBy (answerCheck x f k m) (answeredAt x f k v m) m
 abbrev pub told : Reply → ℕ × ℕ
 told reply.Taken = (0, 0)
 told (reply.Refused r) = tells r
+
+-- ---- words of the theorems
+
+-- X and F are two response bits
+pub record Fit (x f : ℕ) : Type 0 where
+  pub mark : x < responseBits
+  pub fault : f < responseBits
+  pub differ : x ≡ f → ⊥
