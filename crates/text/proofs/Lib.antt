@@ -1,4 +1,6 @@
 pub mod Letters
+pub mod Pairs
 pub mod Putting
 pub mod Reading
+pub mod Rows
 pub mod Runs
