@@ -33,7 +33,9 @@ fn clear_responses(responses: &mut [u8]) {
 }
 
 // machine N n
-pub fn make(board: Board, rest: &[u8], words: &mut [u64], responses: &mut [u8]) -> Turn {
+pub fn make(board: Board, rest: &[u8], words: &mut [u64], responses: &mut [u8]) -> Turn
+    ensures { λ r. ⌜ (r .outcome ≡ Outcome.BadLine → (r .board ≡ board) × (now (words .exit) ≡ now (words .entry)) × (now (responses .exit) ≡ now (responses .entry))) ⌝ }
+{
     let row = arguments::read(rest, b"bn");
     if !row.right {
         return bad_line(board);
@@ -45,7 +47,9 @@ pub fn make(board: Board, rest: &[u8], words: &mut [u64], responses: &mut [u8]) 
 }
 
 // lend m
-pub fn lend(board: Board, rest: &[u8], responses: &mut [u8]) -> Turn {
+pub fn lend(board: Board, rest: &[u8], responses: &mut [u8]) -> Turn
+    ensures { λ r. ⌜ (r .outcome ≡ Outcome.BadLine → (r .board ≡ board) × (now (responses .exit) ≡ now (responses .entry))) ⌝ }
+{
     let row = arguments::read(rest, b"n");
     if !row.right {
         return bad_line(board);
@@ -100,7 +104,9 @@ fn read_value(register: usize, rest: &[u8]) -> Row {
 }
 
 // load R HEX, load address A
-pub fn load(board: Board, rest: &[u8]) -> Turn {
+pub fn load(board: Board, rest: &[u8]) -> Turn
+    ensures { λ r. ⌜ (r .outcome ≡ Outcome.BadLine → (r .board ≡ board)) ⌝ }
+{
     let word = text::words::next(rest, 0);
     let from = word.from;
     let to = word.to;
@@ -109,10 +115,10 @@ pub fn load(board: Board, rest: &[u8]) -> Turn {
         b"comp sdr sc1 sc2 mor key care target address",
         &rest[from..to],
     );
+    let row = read_value(register, &rest[to..end]);
     if 8 < register {
         return bad_line(board);
     }
-    let row = read_value(register, &rest[to..end]);
     if !row.right {
         return bad_line(board);
     }
@@ -158,7 +164,9 @@ pub fn job_of(v: [u64; 16]) -> Job {
 }
 
 // job KIND KEY CARE X Y AL AW BL BW PL PW PHASE I J C
-pub fn write_job(board: Board, rest: &[u8]) -> Turn {
+pub fn write_job(board: Board, rest: &[u8]) -> Turn
+    ensures { λ r. ⌜ (r .outcome ≡ Outcome.BadLine → (r .board ≡ board)) ⌝ }
+{
     let row = arguments::read(rest, b"bhhbbbbbbbbbbbx");
     if !row.right {
         return bad_line(board);
@@ -173,7 +181,9 @@ pub fn write_job(board: Board, rest: &[u8]) -> Turn {
 }
 
 // drop
-pub fn drop_job(board: Board, rest: &[u8]) -> Turn {
+pub fn drop_job(board: Board, rest: &[u8]) -> Turn
+    ensures { λ r. ⌜ (r .outcome ≡ Outcome.BadLine → (r .board ≡ board)) ⌝ }
+{
     if !arguments::none(rest) {
         return bad_line(board);
     }

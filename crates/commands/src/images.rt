@@ -10,6 +10,7 @@ use image::Wrote;
 use text::Number;
 use text::arguments;
 use text::numbers;
+ghost use mathlib.Core.Path.{_≡_};
 
 // The machine's image, from the start of `bytes`.
 fn write(board: Board, words: &[u64], responses: &[u8], bytes: &mut [u8]) -> Wrote {
@@ -88,7 +89,9 @@ fn read_digits(rest: &[u8], bytes: &mut [u8]) -> Number {
 }
 
 // "on success the machine is the one read"; "the panel stays".
-fn taken(board: Board, found: Read) -> Turn {
+fn taken(board: Board, found: Read) -> Turn
+    ensures { λ r. ⌜ (r .outcome ≡ Outcome.BadLine → ⊥) ⌝ }
+{
     match found {
         Read::Machine {
             width,
@@ -117,7 +120,9 @@ fn read(
     w: usize,
     responses: &mut [u8],
     r: usize,
-) -> Turn {
+) -> Turn
+    ensures { λ r. ⌜ (r .outcome ≡ Outcome.BadLine → (r .board ≡ board) × (now (words .exit) ≡ now (words .entry)) × (now (responses .exit) ≡ now (responses .entry))) ⌝ }
+{
     if bytes.len() < k {
         return bad_line(board);
     }
@@ -140,7 +145,9 @@ fn read_into(
     responses: &mut [u8],
     r: usize,
     bytes: &mut [u8],
-) -> Turn {
+) -> Turn
+    ensures { λ r. ⌜ (r .outcome ≡ Outcome.BadLine → (r .board ≡ board) × (now (words .exit) ≡ now (words .entry)) × (now (responses .exit) ≡ now (responses .entry))) ⌝ }
+{
     let found = read_digits(rest, bytes);
     match found {
         Number::Is(k) => read(board, bytes, k as usize, words, w, responses, r),
@@ -155,7 +162,9 @@ pub fn resume(
     words: &mut [u64],
     responses: &mut [u8],
     bytes: &mut [u8],
-) -> Turn {
+) -> Turn
+    ensures { λ r. ⌜ (r .outcome ≡ Outcome.BadLine → (r .board ≡ board) × (now (words .exit) ≡ now (words .entry)) × (now (responses .exit) ≡ now (responses .entry))) ⌝ }
+{
     read_into(board, rest, words, 1024, responses, 1024, bytes)
 }
 
@@ -166,7 +175,9 @@ pub fn fit(
     words: &mut [u64],
     responses: &mut [u8],
     bytes: &mut [u8],
-) -> Turn {
+) -> Turn
+    ensures { λ r. ⌜ (r .outcome ≡ Outcome.BadLine → (r .board ≡ board) × (now (words .exit) ≡ now (words .entry)) × (now (responses .exit) ≡ now (responses .entry))) ⌝ }
+{
     let first = text::words::next(rest, 0);
     let second = text::words::next(rest, first.to);
     let to = second.to;

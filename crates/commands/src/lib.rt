@@ -12,6 +12,7 @@ use machine::WordSlice;
 use plans::Command;
 use plans::Held;
 ghost use mathlib.Core.Path.{_≡_};
+ghost use Rattle.commands.specs.Boards.{freshBoard, holding};
 
 // The machine but for its two lent buffers, of which it says how many entries are its own.
 pub struct Board {
@@ -53,7 +54,9 @@ pub struct Turn {
 }
 
 // "machine N n", but for the buffers.
-pub fn fresh(width: u32, words: usize) -> Board {
+pub fn fresh(width: u32, words: usize) -> Board
+    ensures { λ r. ⌜ r ≡ freshBoard width words ⌝ }
+{
     Board {
         width,
         words,
@@ -104,7 +107,7 @@ pub fn refused(board: Board, why: Refusal) -> Turn
 
 // The board with another held job, or none.
 pub fn with_held(board: Board, held: Held) -> Board
-    ensures { λ r. ⌜ (r .held ≡ held) × (r .panel ≡ board .panel) × (r .width ≡ board .width) × (r .words ≡ board .words) × (r .responses ≡ board .responses) ⌝ }
+    ensures { λ r. ⌜ r ≡ holding board held ⌝ }
 {
     let panel = board.panel;
     Board {

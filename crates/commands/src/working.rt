@@ -12,9 +12,12 @@ use jobs::Stepped;
 use plans::Held;
 use tally::Total;
 use text::arguments;
+ghost use mathlib.Core.Path.{_≡_};
 
 // start KIND KEY CARE X Y AL AW BL BW PL PW C
-pub fn start(board: Board, rest: &[u8], words: &[u64], responses: &[u8]) -> Turn {
+pub fn start(board: Board, rest: &[u8], words: &[u64], responses: &[u8]) -> Turn
+    ensures { λ r. ⌜ (r .outcome ≡ Outcome.BadLine → (r .board ≡ board)) ⌝ }
+{
     let row = arguments::read(rest, b"bhhbbbbbbbbx");
     if !row.right {
         return bad_line(board);
@@ -38,7 +41,9 @@ fn is_held(held: Held) -> bool {
 }
 
 // step
-pub fn step(board: Board, rest: &[u8], words: &mut [u64], responses: &mut [u8]) -> Turn {
+pub fn step(board: Board, rest: &[u8], words: &mut [u64], responses: &mut [u8]) -> Turn
+    ensures { λ r. ⌜ (r .outcome ≡ Outcome.BadLine → (r .board ≡ board) × (now (words .exit) ≡ now (words .entry)) × (now (responses .exit) ≡ now (responses .entry))) ⌝ }
+{
     if !arguments::none(rest) {
         return bad_line(board);
     }
@@ -108,7 +113,9 @@ fn to_the_end(started: Progress, width: u32, words: &mut [u64], responses: &mut 
 }
 
 // run: "at least one step, then steps until no job is held or a step is refused"
-pub fn run(board: Board, rest: &[u8], words: &mut [u64], responses: &mut [u8]) -> Turn {
+pub fn run(board: Board, rest: &[u8], words: &mut [u64], responses: &mut [u8]) -> Turn
+    ensures { λ r. ⌜ (r .outcome ≡ Outcome.BadLine → (r .board ≡ board) × (now (words .exit) ≡ now (words .entry)) × (now (responses .exit) ≡ now (responses .entry))) ⌝ }
+{
     if !arguments::none(rest) {
         return bad_line(board);
     }
@@ -125,7 +132,9 @@ pub fn run(board: Board, rest: &[u8], words: &mut [u64], responses: &mut [u8]) -
 }
 
 // The steps of a run after its first.
-fn go_on(board: Board, held: Held, words: &mut [u64], responses: &mut [u8]) -> Turn {
+fn go_on(board: Board, held: Held, words: &mut [u64], responses: &mut [u8]) -> Turn
+    ensures { λ r. ⌜ (r .outcome ≡ Outcome.BadLine → ⊥) ⌝ }
+{
     let started = Progress {
         held,
         steps: 1,

@@ -4,9 +4,14 @@ use crate::Row;
 use crate::numbers;
 use crate::words;
 ghost use mathlib.Core.Path.{_≡_};
+ghost use Prim.Native.Nat.{_<_, _≤_};
+ghost use mathlib.Core.Bool.{true};
 ghost use lib.Dec.{eqb};
+ghost use lib.ListN.{length, set, replicate};
+ghost use lib.Seq.{sets};
 ghost use Rattle.text.specs.Numbers.{letterOf};
-ghost use Rattle.text.specs.Words.{wordAt};
+ghost use Rattle.text.specs.Rows.{fitting, numbersOf};
+ghost use Rattle.text.specs.Words.{wordAt, wordsOf};
 
 // A letter's number: b n k a are decimal, to 255, 2048, 20000 and 2^64 - 1; h and x are hex, to FF and 16 digits.
 pub fn read_one(letter: u8, word: &[u8]) -> Number
@@ -22,14 +27,19 @@ pub fn read_one(letter: u8, word: &[u8]) -> Number
     }
 }
 
-fn keep(values: &mut [u64; 16], i: usize, x: u64) {
+fn keep(values: &mut [u64; 16], i: usize, x: u64)
+    ensures { λ r. ⌜ (i < 16 → now (values .exit) ≡ set (now (values .entry)) i x) ⌝ }
+{
     if i < 16 {
         values[i] = x;
     }
 }
 
-// The words of a line as the letters say: right only if there is a word for each letter and no word more.
-pub fn read(line: &[u8], letters: &[u8]) -> Row {
+// The words of a line as the letters say: right only if there is a word for each letter and no word more. A row has room for 16.
+pub fn read(line: &[u8], letters: &[u8]) -> Row
+    ensures { λ r. ⌜ r .right ≡ fitting (now (letters .entry)) (wordsOf (now (line .entry))) ⌝ }
+    ensures { λ r. ⌜ (length (now (letters .entry)) ≤ 16 → r .right ≡ true → r .values ≡ sets (replicate 16 0) 0 (numbersOf (now (letters .entry)) (wordsOf (now (line .entry))))) ⌝ }
+{
     let mut values = [0u64; 16];
     let mut at: usize = 0;
     let mut i: usize = 0;

@@ -2,9 +2,13 @@
 // zeros are taken". A number of 2^64 or more is a bad one. Also an image's bytes, each a pair of hex digits.
 use crate::Number;
 ghost use mathlib.Core.Path.{_≡_};
-ghost use Prim.Native.Nat.{_≤_, _%_};
+ghost use Prim.Native.Nat.{_+_, _*_, _≤_, _%_};
+ghost use mathlib.Core.Bool.{_&&_};
+ghost use lib.Dec.{ltb};
 ghost use lib.ListN.{length};
-ghost use Rattle.text.specs.Numbers.{digitOf, numberOf, decimalOf, hexOf, atMost};
+ghost use lib.Seq.{sets};
+ghost use Rattle.laws.specs.Bits.{pick};
+ghost use Rattle.text.specs.Numbers.{digitOf, numberOf, decimalOf, hexOf, atMost, pairs, bytesOf};
 
 // What a byte stands for as a digit of either case; 16 for a byte that is none.
 pub fn digit(byte: u8) -> u64
@@ -95,17 +99,25 @@ pub fn byte(x: u64) -> u8
 }
 
 // The byte that two digits stand for.
-fn pair(high: u8, low: u8) -> Number {
+fn pair(high: u8, low: u8) -> Number
+    ensures { λ r. ⌜ r ≡ pick (ltb (digitOf high) 16 && ltb (digitOf low) 16) (Number.Is (digitOf high * 16 + digitOf low)) Number.Bad ⌝ }
+{
     let h = digit(high);
     let l = digit(low);
-    if (15 < h) | (15 < l) {
+    if 15 < h {
+        return Number::Bad;
+    }
+    if 15 < l {
         return Number::Bad;
     }
     Number::Is(h * 16 + l)
 }
 
-// An image's digit pairs as bytes, from the start of `out`: how many; bad where a digit is none or has no partner.
-pub fn bytes(s: &[u8], out: &mut [u8]) -> Number {
+// An image's digit pairs as bytes, from the start of `out`: how many; bad where a digit is none or has no partner, or `out` has no room.
+pub fn bytes(s: &[u8], out: &mut [u8]) -> Number
+    ensures { λ r. ⌜ r ≡ bytesOf (length (now (out .entry))) (now (s .entry)) ⌝ }
+    ensures { λ r. ⌜ ((r ≡ Number.Bad → ⊥) → now (out .exit) ≡ sets (now (out .entry)) 0 (pairs (now (s .entry)))) ⌝ }
+{
     let mut i: usize = 0;
     let mut n: usize = 0;
     while i < s.len() {

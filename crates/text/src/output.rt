@@ -6,7 +6,7 @@ ghost use mathlib.Core.List.{[], _∷_};
 ghost use Prim.Native.Nat.{_+_, _/_, _<_, _≤_};
 ghost use lib.ListN.{length, set};
 ghost use lib.Seq.{sets};
-ghost use Rattle.text.specs.Numbers.{capital};
+ghost use Rattle.text.specs.Numbers.{capital, hexDigits, decimalDigits};
 
 pub fn put_byte(out: &mut [u8], at: usize, byte: u8) -> usize
     ensures { λ r. ⌜ (at < length (now (out .entry)) → (r ≡ at + 1) × (now (out .exit) ≡ set (now (out .entry)) at byte)) ⌝ }
@@ -30,7 +30,10 @@ pub fn put(out: &mut [u8], at: usize, s: &[u8]) -> usize
     n
 }
 
-pub fn put_decimal(out: &mut [u8], at: usize, x: u64) -> usize {
+// "Other numbers are printed in decimal": at most 20 digits, as many as a number below 2^64 can have.
+pub fn put_decimal(out: &mut [u8], at: usize, x: u64) -> usize
+    ensures { λ r. ⌜ (at + length (decimalDigits 20 x) ≤ length (now (out .entry)) → (r ≡ at + length (decimalDigits 20 x)) × (now (out .exit) ≡ sets (now (out .entry)) at (decimalDigits 20 x))) ⌝ }
+{
     let mut digits = [0u8; 20];
     let k = io::decimal(x, &mut digits);
     put(out, at, &digits[..k])
@@ -53,7 +56,9 @@ pub fn put_hex2(out: &mut [u8], at: usize, x: u64) -> usize
 }
 
 // "16 of them for a word or an N-bit register": two at a time, the highest first.
-pub fn put_hex16(out: &mut [u8], at: usize, x: u64) -> usize {
+pub fn put_hex16(out: &mut [u8], at: usize, x: u64) -> usize
+    ensures { λ r. ⌜ (at + 16 ≤ length (now (out .entry)) → (r ≡ at + 16) × (now (out .exit) ≡ sets (now (out .entry)) at (hexDigits 16 x))) ⌝ }
+{
     let mut n = at;
     let mut left: u32 = 8;
     while 0 < left {

@@ -4,7 +4,7 @@ ghost use mathlib.Core.Path.{_≡_};
 ghost use Prim.Native.Nat.{_≤_};
 ghost use lib.Dec.{eqb};
 ghost use lib.ListN.{length};
-ghost use Rattle.text.specs.Words.{isSpace, endOf, within, wordAt};
+ghost use Rattle.text.specs.Words.{isSpace, endOf, within, wordAt, wordsOf, alike, placeOf};
 
 const SPACE: u8 = 32;
 
@@ -56,7 +56,9 @@ pub fn none_left(line: &[u8], at: usize) -> bool
     word.from == word.to
 }
 
-fn same(a: &[u8], b: &[u8]) -> bool {
+fn same(a: &[u8], b: &[u8]) -> bool
+    ensures { λ r. ⌜ r ≡ alike (now (a .entry)) (now (b .entry)) ⌝ }
+{
     if a.len() != b.len() {
         return false;
     }
@@ -70,19 +72,24 @@ fn same(a: &[u8], b: &[u8]) -> bool {
     true
 }
 
-// Which of the names, counted from 0, is the word; as many as there are, or more, where it is none of them.
-pub fn which(names: &[u8], word: &[u8]) -> usize {
+// Which of the names, counted from 0, is the word; as many as there are where it is none of them.
+pub fn which(names: &[u8], word: &[u8]) -> usize
+    ensures { λ r. ⌜ r ≡ placeOf (now (word .entry)) (wordsOf (now (names .entry))) ⌝ }
+{
     let mut number: usize = 0;
     let mut at: usize = 0;
     while at < names.len() {
         let name = next(names, at);
         let from = name.from;
         let to = name.to;
+        if from == to {
+            return number;
+        }
         if same(&names[from..to], word) {
             return number;
         }
-        at = to + 1;
+        at = to;
         number += 1;
     }
-    usize::MAX
+    number
 }
