@@ -115,10 +115,10 @@ pub fn load(board: Board, rest: &[u8]) -> Turn
         b"comp sdr sc1 sc2 mor key care target address",
         &rest[from..to],
     );
-    let row = read_value(register, &rest[to..end]);
     if 8 < register {
         return bad_line(board);
     }
+    let row = read_value(register, &rest[to..end]);
     if !row.right {
         return bad_line(board);
     }

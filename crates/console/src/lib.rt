@@ -6,15 +6,19 @@ use commands::calls;
 use commands::host;
 use commands::images;
 use commands::working;
+ghost use mathlib.Core.Path.{_≡_};
 
 // One line that has a word, on buffers that are as long as any machine of the console needs. `bytes` is room for an image.
+// A bad line "changes nothing either": not the board and neither of its buffers.
 pub fn obey(
     board: Board,
     line: &[u8],
     words: &mut [u64],
     responses: &mut [u8],
     bytes: &mut [u8],
-) -> Turn {
+) -> Turn
+    ensures { λ r. ⌜ (r .outcome ≡ Outcome.BadLine → (r .board ≡ board) × (now (words .exit) ≡ now (words .entry)) × (now (responses .exit) ≡ now (responses .entry))) ⌝ }
+{
     let word = text::words::next(line, 0);
     let from = word.from;
     let to = word.to;
@@ -37,7 +41,9 @@ fn by_name(
     words: &mut [u64],
     responses: &mut [u8],
     bytes: &mut [u8],
-) -> Turn {
+) -> Turn
+    ensures { λ r. ⌜ (r .outcome ≡ Outcome.BadLine → (r .board ≡ board) × (now (words .exit) ≡ now (words .entry)) × (now (responses .exit) ≡ now (responses .entry))) ⌝ }
+{
     match text::words::which(b"machine lend resume fit", name) {
         0 => host::make(board, rest, words, responses),
         1 => host::lend(board, rest, responses),
@@ -55,7 +61,9 @@ fn on_machine(
     words: &mut [u64],
     responses: &mut [u8],
     bytes: &mut [u8],
-) -> Turn {
+) -> Turn
+    ensures { λ r. ⌜ (r .outcome ≡ Outcome.BadLine → (r .board ≡ board) × (now (words .exit) ≡ now (words .entry)) × (now (responses .exit) ≡ now (responses .entry))) ⌝ }
+{
     let n = board.words;
     let m = board.responses;
     if words.len() < n {
@@ -82,7 +90,9 @@ fn change(
     words: &mut [u64],
     responses: &mut [u8],
     bytes: &mut [u8],
-) -> Turn {
+) -> Turn
+    ensures { λ r. ⌜ (r .outcome ≡ Outcome.BadLine → (r .board ≡ board) × (now (words .exit) ≡ now (words .entry)) × (now (responses .exit) ≡ now (responses .entry))) ⌝ }
+{
     match text::words::which(b"load job drop start step run", name) {
         0 => host::load(board, rest),
         1 => host::write_job(board, rest),
@@ -105,7 +115,9 @@ fn mark(
     words: &mut [u64],
     responses: &mut [u8],
     bytes: &mut [u8],
-) -> Outcome {
+) -> Outcome
+    ensures { λ r. ⌜ (r ≡ Outcome.BadLine → (now (words .exit) ≡ now (words .entry)) × (now (responses .exit) ≡ now (responses .entry))) ⌝ }
+{
     match text::words::which(b"word response pulse cells done faulty", name) {
         0 => host::write_word(rest, words),
         1 => host::write_response(rest, responses),

@@ -1,5 +1,7 @@
 // Standard input, line by line: "bytes, split at newlines; a last line with no newline counts". Input is read only once every line
 // that has come is taken, so a caller that answers each line before it asks for the next answers at once.
+ghost use mathlib.Core.Bool.{true};
+ghost use mathlib.Core.Path.{_≡_};
 ghost use Prim.Native.Nat.{_≤_};
 ghost use lib.ListN.{length};
 use libc::STDIN_FILENO;
@@ -30,7 +32,9 @@ pub struct Got {
 }
 
 // Nothing is read yet, or all that was read is taken.
-pub fn start() -> Reader {
+pub fn start() -> Reader
+    ensures { λ r. ⌜ (r .from ≡ 0) × (r .to ≡ 0) × (r .open ≡ true) ⌝ }
+{
     Reader {
         from: 0,
         to: 0,
