@@ -8,9 +8,8 @@ use native.Mathlib.Omega.{arith}
 use native.Mathlib.Nat.{mod-lt, mul-le-mul-right}
 use lib.Dec.{eqb}
 use lib.Pow.{pow-pos, pow-add}
-use Rattle.laws.specs.Bits.{bit, pick}
-use Rattle.laws.proofs.Digits.{bit-lt}
-use Rattle.laws.proofs.Bits.{digit-at, number-lt}
+use Rattle.laws.specs.Bits.{bit}
+use Rattle.laws.proofs.Bits.{number-lt}
 use Rattle.machine.specs.declared.Panel.{Panel}
 use Rattle.machine.specs.declared.Lines.{Lines}
 use Rattle.machine.specs.declared.Check.the-variants.{Passed}
@@ -20,6 +19,7 @@ use Rattle.machine.specs.Refusals.{machineCheck}
 use Rattle.machine.proofs.Tops.{Tiled, syllables-tile}
 use Rattle.machine.proofs.Checks.{sound}
 use Rattle.ends.proofs.Machines.{passes, pos, sound-after}
+use Rattle.hosts.proofs.Below.{bit-below, either-below}
 
 one-syllable : (a rest width low lo hi : ℕ) → low ≡ lo → a < 2 ^ width → rest + 2 ^ (lo + width) ≤ 2 ^ hi → a * 2 ^ low + rest + 2 ^ lo ≤ 2 ^ hi
 one-syllable a rest width low lo hi e h g =
@@ -38,13 +38,6 @@ sums-fit p w (y ∷ ys) lo hi t =
 added-fits : (n : ℕ) (p : Panel) (w : ℕ) → 0 < n → added n p w < 2 ^ n
 unfolding added
 added-fits n p w h = let s = sums-fit p w (syllables n (p .sdr)) 0 n (syllables-tile n (p .sdr) h) in omega (arith, s)
-
-bit-below : (x i : ℕ) → bit x i < 2
-bit-below x i = bit-lt (digit-at x i)
-
-either-below : (t : Bool) {a b : ℕ} → a < 2 → b < 2 → pick t a b < 2
-either-below true h g = h
-either-below false h g = g
 
 max-below : {a b : ℕ} → a < 2 → b < 2 → max a b < 2
 max-below h g = omega arith

@@ -8,8 +8,7 @@ use lib.Dec.{eqb, ltb}
 use lib.ListN.{length}
 use borrow.Author.Tests.{eqb-true, not-false}
 use Rattle.laws.specs.Bits.{bit, pick, digit}
-use Rattle.laws.proofs.Digits.{bit-lt}
-use Rattle.laws.proofs.Bits.{digit-at, bit-none, number-bit, and-left}
+use Rattle.laws.proofs.Bits.{bit-none, number-bit, and-left}
 use Rattle.machine.specs.declared.Panel.{Panel}
 use Rattle.machine.specs.declared.Lines.{Lines}
 use Rattle.machine.specs.declared.Check.{Check}
@@ -41,6 +40,7 @@ use Rattle.hosts.specs.Rounds.{Other, Leaves, ApartFor, Apart}
 use Rattle.hosts.specs.Images.{Typed}
 use Rattle.hosts.proofs.Typed.{pulsed-bytes, first-fits, stepped-typed}
 use Rattle.hosts.proofs.Fits.{pulsed-passes}
+use Rattle.hosts.proofs.Below.{bit-below, digit-below, flip-below, either-below}
 
 -- ---- the machine that each leaves
 
@@ -68,20 +68,6 @@ other-typed (events.steps {s} a) t = stepped-typed s t
 other-typed events.loads t = t
 
 -- ---- pulses
-
-bit-below : (x i : ℕ) → bit x i < 2
-bit-below x i = bit-lt (digit-at x i)
-
-either-below : (t : Bool) {a b : ℕ} → a < 2 → b < 2 → pick t a b < 2
-either-below true h g = h
-either-below false h g = g
-
-digit-below : (b : Bool) → digit b < 2
-digit-below true = omega arith
-digit-below false = omega arith
-
-flip-below : {b : ℕ} → b < 2 → 1 - b < 2
-flip-below h = omega arith
 
 -- a response bit that the target does not have
 untouched : (n : ℕ) (p : Panel) (l : Lines) (k w r i : ℕ) → i < responseBits → bit (p .target) i ≡ 0 → bit (responseAfter n p l k w r) i ≡ bit r i

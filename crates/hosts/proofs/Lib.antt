@@ -1,5 +1,6 @@
 -- Over many calls: what a host stored is what it resumes (Images), jobs over stops (Jobs), rounds over stops (Standing, Rounds), and the calls that
 -- leave a round alone (Leaving) and the held job in order (Staying); the rest leads up to them.
+pub mod Below
 pub mod Images
 pub mod Typed
 pub mod Fits

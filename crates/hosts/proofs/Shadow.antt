@@ -10,8 +10,7 @@ use lib.Dec.{eqb}
 use lib.ListN.{length, getD, set, length-map, List·getD-map}
 use borrow.Author.Tests.{eq-eqb, eqb-true}
 use Rattle.laws.specs.Bits.{bit, pick, number}
-use Rattle.laws.proofs.Digits.{bit-lt}
-use Rattle.laws.proofs.Bits.{digit-at, bit-none, number-fits, number-like, number-bit}
+use Rattle.laws.proofs.Bits.{bit-none, number-fits, number-like, number-bit}
 use Rattle.machine.specs.declared.WordSlice.{WordSlice}
 use Rattle.machine.specs.declared.Found.{Found}
 use Rattle.machine.specs.declared.Found.the-variants.{At}
@@ -29,18 +28,12 @@ use Rattle.rounds.proofs.Passing.{acceptable, accepted}
 use Rattle.rounds.specs.Round.{Fit}
 use Rattle.rounds.proofs.Answering.{same-checks}
 use Rattle.hosts.specs.Rounds.{Leaves}
+use Rattle.hosts.proofs.Below.{bit-below, either-below}
 
 -- ---- one response
 
 unfoldable pub only : ℕ → ℕ → ℕ → ℕ
 only x f r = number responseBits (λ j. pick (eqb j x || eqb j f) (bit r j) 0)
-
-bit-below : (x i : ℕ) → bit x i < 2
-bit-below x i = bit-lt (digit-at x i)
-
-either-below : (t : Bool) {a b : ℕ} → a < 2 → b < 2 → pick t a b < 2
-either-below true h g = h
-either-below false h g = g
 
 only-bit : (x f r j : ℕ) → j < responseBits → bit (only x f r) j ≡ pick (eqb j x || eqb j f) (bit r j) 0
 unfolding only

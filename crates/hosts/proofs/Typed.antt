@@ -1,14 +1,13 @@
 -- A pulse leaves bytes in the responses, and a job's c stays what it is: what the types say holds after any calls.
 -- Assumes nothing.
-use Prim.Native.Nat.{ℕ, zero, suc, _+_, _-_, _^_, _<_}
+use Prim.Native.Nat.{ℕ, zero, suc, _+_, _^_, _<_}
 use mathlib.Core.Bool.{Bool, true, false, _&&_}
 use mathlib.Core.List.{List, [], _∷_}
 use native.Mathlib.Omega.{arith}
 use lib.Dec.{ltb, eqb}
-use Rattle.laws.specs.Bits.{bit, pick, digit}
+use Rattle.laws.specs.Bits.{bit, pick}
 use Rattle.laws.specs.Lists.{zip}
-use Rattle.laws.proofs.Digits.{bit-lt}
-use Rattle.laws.proofs.Bits.{digit-at, number-lt}
+use Rattle.laws.proofs.Bits.{number-lt}
 use Rattle.machine.specs.declared.Panel.{Panel}
 use Rattle.machine.specs.declared.Lines.{Lines}
 use Rattle.machine.specs.Machine.{Machine, responseBits, selected}
@@ -28,30 +27,17 @@ use Rattle.machine.specs.declared.Check.the-variants as check
 use Rattle.layout.specs.Format.{AreBytes}
 use Rattle.image.specs.Calls.{ConstantFits}
 use Rattle.hosts.specs.Images.{Typed}
+use Rattle.hosts.proofs.Below.{bit-below, digit-below, flip-below, either-below}
 
 -- ---- responses
-
-pick-lt : (t : Bool) {a b n : ℕ} → a < n → b < n → pick t a b < n
-pick-lt true h g = h
-pick-lt false h g = g
-
-digit-lt : (b : Bool) → digit b < 2
-digit-lt true = omega arith
-digit-lt false = omega arith
-
-flip-lt : {b : ℕ} → b < 2 → 1 - b < 2
-flip-lt h = omega arith
-
-bit-below : (r i : ℕ) → bit r i < 2
-bit-below r i = bit-lt (digit-at r i)
 
 response-byte : (n : ℕ) (p : Panel) (l : Lines) (k w r : ℕ) → r < 256 → responseAfter n p l k w r < 256
 unfolding responseAfter marked flipped
 response-byte n p l k w r h =
-    pick-lt (l .search)
-    (number-lt responseBits _ (λ i g. pick-lt (eqb (bit (p .target) i) 1) (digit-lt (matches n p w r)) (bit-below r i)))
-    (pick-lt (l .complement && selected (p .key) (p .care) r)
-    (number-lt responseBits _ (λ i g. pick-lt (eqb (bit (p .target) i) 1) (flip-lt (bit-below r i)) (bit-below r i))) h)
+    either-below (l .search)
+    (number-lt responseBits _ (λ i g. either-below (eqb (bit (p .target) i) 1) (digit-below (matches n p w r)) (bit-below r i)))
+    (either-below (l .complement && selected (p .key) (p .care) r)
+    (number-lt responseBits _ (λ i g. either-below (eqb (bit (p .target) i) 1) (flip-below (bit-below r i)) (bit-below r i))) h)
 
 zip-bytes : (f : ℕ → ℕ → ℕ → ℕ) → ((k w r : ℕ) → r < 256 → f k w r < 256) → (j : ℕ) (ws rs : List ℕ) → AreBytes rs → AreBytes (zip f j ws rs)
 unfolding zip
