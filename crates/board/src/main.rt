@@ -1,12 +1,10 @@
 // The program `board`: the console at a terminal. It reads commands from standard input, one to a line, gives each to the library
 // and prints the answer before it reads the next. docs/BOARD.md teaches it. Bad lines never stop it; the end of the input does.
-mod listing;
-mod replies;
-
 use commands::Board;
 use commands::Outcome;
 use lines::Line;
 use lines::Reader;
+use text::output;
 
 const COMMENT: u8 = 35;
 
@@ -24,6 +22,11 @@ fn is_comment(line: &[u8]) -> bool {
     }
 }
 
+fn print(outcome: Outcome, bytes: &[u8], out: &mut [u8]) {
+    let n = replies::put(out, outcome, bytes);
+    output::write(out, n);
+}
+
 // One line that is to be answered.
 fn answer(
     board: Board,
@@ -35,7 +38,7 @@ fn answer(
 ) -> Board {
     let turn = console::obey(board, line, words, responses, bytes);
     let outcome = turn.outcome;
-    replies::print(outcome, bytes, out);
+    print(outcome, bytes, out);
     turn.board
 }
 
@@ -58,7 +61,7 @@ fn take(
         return board;
     }
     if found.longer {
-        replies::print(Outcome::BadLine, bytes, out);
+        print(Outcome::BadLine, bytes, out);
         return board;
     }
     answer(board, kept, words, responses, bytes, out)
@@ -110,15 +113,15 @@ fn serve(
     }
 }
 
-// A command has at most 20,000 bytes, a buffer of the machine 2,048 entries, an output for an image 20,000 bytes. The longest
-// answer is the list of 1,024 words, some 25,600 bytes.
+// A command has at most 20,000 bytes, a buffer of the machine 2,048 entries, an output for an image 20,000 bytes. Every answer
+// has room in 65,536 bytes, as `replies` proves.
 fn main() {
     let mut chunk = [0u8; 65536];
     let mut line = [0u8; 20000];
     let mut words = [0u64; 2048];
     let mut responses = [0u8; 2048];
     let mut bytes = [0u8; 20000];
-    let mut out = [0u8; 32768];
+    let mut out = [0u8; 65536];
     serve(
         &mut chunk,
         &mut line,

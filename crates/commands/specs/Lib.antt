@@ -1,1 +1,4 @@
+-- the board, how a command ends, and a job as a line writes it
 pub mod Boards
+pub mod Ends
+pub mod Jobs

@@ -1,18 +1,21 @@
-// The console's commands: the rest of a command's line is taken apart and given to the library, and the library's answer handed
-// back to be printed. docs/BOARD.md has the language. "The console checks nothing that document 01 gives a refusal for": what a
-// command turns down itself is a line that is none of its own, and such a line changes nothing.
-pub mod calls;
-pub mod host;
-pub mod images;
-pub mod working;
-
+// What the console's commands have in common: the board they work on, how a command ends, and a job as a line writes it.
+// The commands stand in `setting`, `pulsing`, `working` and `storing`: each takes the rest of its line apart, gives it to the
+// library and hands back the library's answer, to be printed. docs/BOARD.md has the language. "The console checks nothing that
+// document 01 gives a refusal for": what a command turns down itself is a line that is none of its own.
+use machine::BitSlice;
 use machine::Panel;
 use machine::Refusal;
 use machine::WordSlice;
 use plans::Command;
 use plans::Held;
+use plans::Job;
+use plans::Span;
+use text::numbers;
 ghost use mathlib.Core.Path.{_≡_};
+ghost use Prim.Native.Nat.{_%_};
 ghost use Rattle.commands.specs.Boards.{freshBoard, holding};
+ghost use Rattle.commands.specs.Ends as ends;
+ghost use Rattle.commands.specs.Jobs.{jobOf};
 
 // The machine but for its two lent buffers, of which it says how many entries are its own.
 pub struct Board {
@@ -79,7 +82,7 @@ pub fn fresh(width: u32, words: usize) -> Board
 // ---- how a command ends
 
 pub fn bad_line(board: Board) -> Turn
-    ensures { λ r. ⌜ (r .board ≡ board) × (r .outcome ≡ Outcome.BadLine) ⌝ }
+    ensures { λ r. ⌜ r ≡ ends.badLine board ⌝ }
 {
     Turn {
         board,
@@ -88,7 +91,7 @@ pub fn bad_line(board: Board) -> Turn
 }
 
 pub fn fine(board: Board) -> Turn
-    ensures { λ r. ⌜ (r .board ≡ board) × (r .outcome ≡ Outcome.Fine) ⌝ }
+    ensures { λ r. ⌜ r ≡ ends.fine board ⌝ }
 {
     Turn {
         board,
@@ -97,7 +100,7 @@ pub fn fine(board: Board) -> Turn
 }
 
 pub fn refused(board: Board, why: Refusal) -> Turn
-    ensures { λ r. ⌜ (r .board ≡ board) × (r .outcome ≡ Outcome.Refused why) ⌝ }
+    ensures { λ r. ⌜ r ≡ ends.refused board why ⌝ }
 {
     Turn {
         board,
@@ -116,5 +119,36 @@ pub fn with_held(board: Board, held: Held) -> Board
         responses: board.responses,
         panel,
         held,
+    }
+}
+
+// ---- a job as a line writes it
+
+fn span(low: u64, width: u64) -> Span
+    ensures { λ r. ⌜ r ≡ record { low = record { 0 = low % 256 }; width = width % 256 } ⌝ }
+{
+    Span {
+        low: BitSlice(numbers::byte(low)),
+        width: numbers::byte(width),
+    }
+}
+
+// The fields that `start` and `job` begin with: KIND KEY CARE X Y AL AW BL BW PL PW. The place is 0 and so is c.
+pub fn job_of(row: [u64; 16]) -> Job
+    ensures { λ r. ⌜ r ≡ jobOf row ⌝ }
+{
+    Job {
+        kind: numbers::byte(row[0]),
+        key: numbers::byte(row[1]),
+        care: numbers::byte(row[2]),
+        x: numbers::byte(row[3]),
+        y: numbers::byte(row[4]),
+        a: span(row[5], row[6]),
+        b: span(row[7], row[8]),
+        p: span(row[9], row[10]),
+        phase: 0,
+        i: 0,
+        j: 0,
+        c: 0,
     }
 }

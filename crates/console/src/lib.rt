@@ -1,15 +1,12 @@
-// Which command a line is. docs/BOARD.md has the language; `commands` says what each command does with the rest of its line.
+// Which command a line is. docs/BOARD.md has the language; `setting`, `pulsing`, `working` and `storing` have the commands.
 use commands::Board;
 use commands::Outcome;
 use commands::Turn;
-use commands::calls;
-use commands::host;
-use commands::images;
-use commands::working;
 ghost use mathlib.Core.Path.{_≡_};
+ghost use Rattle.text.specs.Words.{wordsOf};
+ghost use Rattle.console.specs.Obeying as obeying;
 
-// One line that has a word, on buffers that are as long as any machine of the console needs. `bytes` is room for an image.
-// A bad line "changes nothing either": not the board and neither of its buffers.
+// One line, on buffers that are as long as any machine of the console needs. `bytes` is room for an image.
 pub fn obey(
     board: Board,
     line: &[u8],
@@ -17,11 +14,17 @@ pub fn obey(
     responses: &mut [u8],
     bytes: &mut [u8],
 ) -> Turn
-    ensures { λ r. ⌜ (r .outcome ≡ Outcome.BadLine → (r .board ≡ board) × (now (words .exit) ≡ now (words .entry)) × (now (responses .exit) ≡ now (responses .entry))) ⌝ }
+    ensures { λ r. ⌜ r ≡ obeying.obeyed (obeying.desk board (now (words .entry)) (now (responses .entry)) (now (bytes .entry))) (wordsOf (now (line .entry))) .turn ⌝ }
+    ensures { λ _. ⌜ now (words .exit) ≡ obeying.obeyed (obeying.desk board (now (words .entry)) (now (responses .entry)) (now (bytes .entry))) (wordsOf (now (line .entry))) .words ⌝ }
+    ensures { λ _. ⌜ now (responses .exit) ≡ obeying.obeyed (obeying.desk board (now (words .entry)) (now (responses .entry)) (now (bytes .entry))) (wordsOf (now (line .entry))) .responses ⌝ }
+    ensures { λ _. ⌜ now (bytes .exit) ≡ obeying.obeyed (obeying.desk board (now (words .entry)) (now (responses .entry)) (now (bytes .entry))) (wordsOf (now (line .entry))) .bytes ⌝ }
 {
     let word = text::words::next(line, 0);
     let from = word.from;
     let to = word.to;
+    if from == to {
+        return commands::bad_line(board);
+    }
     let end = line.len();
     by_name(
         board,
@@ -42,13 +45,16 @@ fn by_name(
     responses: &mut [u8],
     bytes: &mut [u8],
 ) -> Turn
-    ensures { λ r. ⌜ (r .outcome ≡ Outcome.BadLine → (r .board ≡ board) × (now (words .exit) ≡ now (words .entry)) × (now (responses .exit) ≡ now (responses .entry))) ⌝ }
+    ensures { λ r. ⌜ r ≡ obeying.named (obeying.desk board (now (words .entry)) (now (responses .entry)) (now (bytes .entry))) (now (name .entry)) (wordsOf (now (rest .entry))) .turn ⌝ }
+    ensures { λ _. ⌜ now (words .exit) ≡ obeying.named (obeying.desk board (now (words .entry)) (now (responses .entry)) (now (bytes .entry))) (now (name .entry)) (wordsOf (now (rest .entry))) .words ⌝ }
+    ensures { λ _. ⌜ now (responses .exit) ≡ obeying.named (obeying.desk board (now (words .entry)) (now (responses .entry)) (now (bytes .entry))) (now (name .entry)) (wordsOf (now (rest .entry))) .responses ⌝ }
+    ensures { λ _. ⌜ now (bytes .exit) ≡ obeying.named (obeying.desk board (now (words .entry)) (now (responses .entry)) (now (bytes .entry))) (now (name .entry)) (wordsOf (now (rest .entry))) .bytes ⌝ }
 {
     match text::words::which(b"machine lend resume fit", name) {
-        0 => host::make(board, rest, words, responses),
-        1 => host::lend(board, rest, responses),
-        2 => images::resume(board, rest, words, responses, bytes),
-        3 => images::fit(board, rest, words, responses, bytes),
+        0 => setting::make(board, rest, words, responses),
+        1 => setting::lend(board, rest, responses),
+        2 => storing::resume(board, rest, words, responses, bytes),
+        3 => storing::fit(board, rest, words, responses, bytes),
         _ => on_machine(board, name, rest, words, responses, bytes),
     }
 }
@@ -62,7 +68,10 @@ fn on_machine(
     responses: &mut [u8],
     bytes: &mut [u8],
 ) -> Turn
-    ensures { λ r. ⌜ (r .outcome ≡ Outcome.BadLine → (r .board ≡ board) × (now (words .exit) ≡ now (words .entry)) × (now (responses .exit) ≡ now (responses .entry))) ⌝ }
+    ensures { λ r. ⌜ r ≡ obeying.onMachine (obeying.desk board (now (words .entry)) (now (responses .entry)) (now (bytes .entry))) (now (name .entry)) (wordsOf (now (rest .entry))) .turn ⌝ }
+    ensures { λ _. ⌜ now (words .exit) ≡ obeying.onMachine (obeying.desk board (now (words .entry)) (now (responses .entry)) (now (bytes .entry))) (now (name .entry)) (wordsOf (now (rest .entry))) .words ⌝ }
+    ensures { λ _. ⌜ now (responses .exit) ≡ obeying.onMachine (obeying.desk board (now (words .entry)) (now (responses .entry)) (now (bytes .entry))) (now (name .entry)) (wordsOf (now (rest .entry))) .responses ⌝ }
+    ensures { λ _. ⌜ now (bytes .exit) ≡ obeying.onMachine (obeying.desk board (now (words .entry)) (now (responses .entry)) (now (bytes .entry))) (now (name .entry)) (wordsOf (now (rest .entry))) .bytes ⌝ }
 {
     let n = board.words;
     let m = board.responses;
@@ -91,12 +100,15 @@ fn change(
     responses: &mut [u8],
     bytes: &mut [u8],
 ) -> Turn
-    ensures { λ r. ⌜ (r .outcome ≡ Outcome.BadLine → (r .board ≡ board) × (now (words .exit) ≡ now (words .entry)) × (now (responses .exit) ≡ now (responses .entry))) ⌝ }
+    ensures { λ r. ⌜ r ≡ obeying.changed (obeying.desk board (now (words .entry)) (now (responses .entry)) (now (bytes .entry))) (now (name .entry)) (wordsOf (now (rest .entry))) .turn ⌝ }
+    ensures { λ _. ⌜ now (words .exit) ≡ obeying.changed (obeying.desk board (now (words .entry)) (now (responses .entry)) (now (bytes .entry))) (now (name .entry)) (wordsOf (now (rest .entry))) .words ⌝ }
+    ensures { λ _. ⌜ now (responses .exit) ≡ obeying.changed (obeying.desk board (now (words .entry)) (now (responses .entry)) (now (bytes .entry))) (now (name .entry)) (wordsOf (now (rest .entry))) .responses ⌝ }
+    ensures { λ _. ⌜ now (bytes .exit) ≡ obeying.changed (obeying.desk board (now (words .entry)) (now (responses .entry)) (now (bytes .entry))) (now (name .entry)) (wordsOf (now (rest .entry))) .bytes ⌝ }
 {
     match text::words::which(b"load job drop start step run", name) {
-        0 => host::load(board, rest),
-        1 => host::write_job(board, rest),
-        2 => host::drop_job(board, rest),
+        0 => setting::load(board, rest),
+        1 => setting::write_job(board, rest),
+        2 => setting::drop_job(board, rest),
         3 => working::start(board, rest, words, responses),
         4 => working::step(board, rest, words, responses),
         5 => working::run(board, rest, words, responses),
@@ -116,15 +128,18 @@ fn mark(
     responses: &mut [u8],
     bytes: &mut [u8],
 ) -> Outcome
-    ensures { λ r. ⌜ (r ≡ Outcome.BadLine → (now (words .exit) ≡ now (words .entry)) × (now (responses .exit) ≡ now (responses .entry))) ⌝ }
+    ensures { λ r. ⌜ r ≡ obeying.marked (obeying.desk board (now (words .entry)) (now (responses .entry)) (now (bytes .entry))) (now (name .entry)) (wordsOf (now (rest .entry))) .outcome ⌝ }
+    ensures { λ _. ⌜ now (words .exit) ≡ obeying.marked (obeying.desk board (now (words .entry)) (now (responses .entry)) (now (bytes .entry))) (now (name .entry)) (wordsOf (now (rest .entry))) .words ⌝ }
+    ensures { λ _. ⌜ now (responses .exit) ≡ obeying.marked (obeying.desk board (now (words .entry)) (now (responses .entry)) (now (bytes .entry))) (now (name .entry)) (wordsOf (now (rest .entry))) .responses ⌝ }
+    ensures { λ _. ⌜ now (bytes .exit) ≡ obeying.marked (obeying.desk board (now (words .entry)) (now (responses .entry)) (now (bytes .entry))) (now (name .entry)) (wordsOf (now (rest .entry))) .bytes ⌝ }
 {
     match text::words::which(b"word response pulse cells done faulty", name) {
-        0 => host::write_word(rest, words),
-        1 => host::write_response(rest, responses),
-        2 => calls::pulse(board, rest, words, responses),
-        3 => calls::cells(board, rest, words, responses),
-        4 => calls::done(board, rest, words, responses),
-        5 => calls::faulty(board, rest, words, responses),
+        0 => setting::write_word(rest, words),
+        1 => setting::write_response(rest, responses),
+        2 => pulsing::pulse(board, rest, words, responses),
+        3 => pulsing::cells(board, rest, words, responses),
+        4 => pulsing::done(board, rest, words, responses),
+        5 => pulsing::faulty(board, rest, words, responses),
         _ => look(board, name, rest, words, responses, bytes),
     }
 }
@@ -137,16 +152,19 @@ fn look(
     words: &[u64],
     responses: &[u8],
     bytes: &mut [u8],
-) -> Outcome {
+) -> Outcome
+    ensures { λ r. ⌜ r ≡ obeying.looked (obeying.desk board (now (words .entry)) (now (responses .entry)) (now (bytes .entry))) (now (name .entry)) (wordsOf (now (rest .entry))) .outcome ⌝ }
+    ensures { λ _. ⌜ now (bytes .exit) ≡ obeying.looked (obeying.desk board (now (words .entry)) (now (responses .entry)) (now (bytes .entry))) (now (name .entry)) (wordsOf (now (rest .entry))) .bytes ⌝ }
+{
     match text::words::which(b"panel resolve tree show total store list room", name) {
-        0 => host::tell_panel(board, rest),
-        1 => calls::resolve(board, rest, words, responses),
-        2 => calls::tree(board, rest, words, responses),
-        3 => calls::show(board, rest, words, responses),
+        0 => setting::tell_panel(board, rest),
+        1 => pulsing::resolve(board, rest, words, responses),
+        2 => pulsing::tree(board, rest, words, responses),
+        3 => pulsing::show(board, rest, words, responses),
         4 => working::total(board, rest, words, responses),
-        5 => images::store(board, rest, words, responses, bytes),
-        6 => images::list(board, rest, words, responses, bytes),
-        7 => images::room(board, rest, words, responses, bytes),
+        5 => storing::store(board, rest, words, responses, bytes),
+        6 => storing::list(board, rest, words, responses, bytes),
+        7 => storing::room(board, rest, words, responses, bytes),
         _ => Outcome::BadLine,
     }
 }

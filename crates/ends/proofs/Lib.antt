@@ -32,3 +32,4 @@ pub mod Greatest
 pub mod Smallest
 -- every kind
 pub mod Ends
+pub mod Firsts

@@ -2,8 +2,11 @@
 // that has come is taken, so a caller that answers each line before it asks for the next answers at once.
 ghost use mathlib.Core.Bool.{true};
 ghost use mathlib.Core.Path.{_≡_};
-ghost use Prim.Native.Nat.{_≤_};
+ghost use Prim.Native.Nat.{ℕ, _≤_, _<_};
+ghost use mathlib.Core.List.{List, [], _∷_, _++_};
 ghost use lib.ListN.{length};
+ghost use Rattle.lines.specs.Input as input;
+ghost use Rattle.lines.specs.Pieces as pieces;
 use libc::STDIN_FILENO;
 
 const NEWLINE: u8 = 10;
@@ -42,7 +45,10 @@ pub fn start() -> Reader
     }
 }
 
-fn empty() -> Line {
+// The line of no bytes.
+fn empty() -> Line
+    ensures { λ r. ⌜ ((lent : List ℕ) → pieces.Holds lent [] r lent) ⌝ }
+{
     Line {
         kept: 0,
         longer: false,
@@ -52,6 +58,7 @@ fn empty() -> Line {
 
 // The first newline's place, or the end.
 fn newline(s: &[u8]) -> usize
+    ensures { λ r. ⌜ r ≡ input.beforeNewline (now (s .entry)) ⌝ }
     ensures { λ r. ⌜ r ≤ length (now (s .entry)) ⌝ }
 {
     let mut i: usize = 0;
@@ -64,27 +71,41 @@ fn newline(s: &[u8]) -> usize
     i
 }
 
-// The line with these bytes behind it.
-fn extend(line: Line, s: &[u8], kept: &mut [u8]) -> Line {
-    let mut n = line.kept;
-    let mut longer = line.longer;
-    let mut has_word = line.has_word;
-    let mut i: usize = 0;
-    while i < s.len() {
-        let byte = s[i];
-        has_word = has_word | (byte != SPACE);
-        longer = longer | (kept.len() <= n);
-        n = text::output::put_byte(kept, n, byte);
-        i += 1;
+// The line with this byte behind it, which is kept if there is room.
+fn put(line: Line, byte: u8, kept: &mut [u8]) -> Line
+    ensures { λ r. ⌜ ((lent t : List ℕ) → pieces.Holds lent t line (now (kept .entry)) → pieces.Holds lent (t ++ (byte ∷ [])) r (now (kept .exit))) ⌝ }
+{
+    let n = line.kept;
+    let has_word = line.has_word | (byte != SPACE);
+    if n < kept.len() {
+        kept[n] = byte;
+        return Line {
+            kept: n + 1,
+            longer: line.longer,
+            has_word,
+        };
     }
     Line {
         kept: n,
-        longer,
+        longer: true,
         has_word,
     }
 }
 
-// One read. An error counts as the end of the input.
+// The line with these bytes behind it.
+fn extend(line: Line, s: &[u8], kept: &mut [u8]) -> Line
+    ensures { λ r. ⌜ ((lent t : List ℕ) → pieces.Holds lent t line (now (kept .entry)) → pieces.Holds lent (t ++ now (s .entry)) r (now (kept .exit))) ⌝ }
+{
+    let mut extended = line;
+    let mut i: usize = 0;
+    while i < s.len() {
+        extended = put(extended, s[i], kept);
+        i += 1;
+    }
+    extended
+}
+
+// One read. An error counts as the end of the input. What is read, no contract can say.
 fn fill(chunk: &mut [u8]) -> Reader {
     let got = libc::read(STDIN_FILENO, chunk);
     if got <= 0 {
@@ -105,6 +126,8 @@ fn fill(chunk: &mut [u8]) -> Reader {
 fn take(line: Line, s: &[u8], from: usize, to: usize, kept: &mut [u8]) -> Got
     requires { ⌜ from ≤ to ⌝ }
     requires { ⌜ to ≤ length (now s) ⌝ }
+    ensures { λ r. ⌜ ((lent t : List ℕ) → pieces.Holds lent t line (now (kept .entry)) → pieces.Holds lent (t ++ pieces.upToNewline (pieces.between from to (now (s .entry)))) (r .line) (now (kept .exit))) ⌝ }
+    ensures { λ r. ⌜ (input.beforeNewline (pieces.between from to (now (s .entry))) < length (pieces.between from to (now (s .entry))) → (r .reader ≡ pieces.behind from to (pieces.between from to (now (s .entry)))) × (r .whole ≡ true)) ⌝ }
 {
     let part = &s[from..to];
     let end = newline(part);
@@ -128,15 +151,16 @@ fn take(line: Line, s: &[u8], from: usize, to: usize, kept: &mut [u8]) -> Got
 }
 
 // Takes what is left of the last read; where nothing is, reads once more. The end of the input ends the line.
-fn more(got: Got, chunk: &mut [u8], kept: &mut [u8]) -> Got {
+fn more(got: Got, chunk: &mut [u8], kept: &mut [u8]) -> Got
+    ensures { λ r. ⌜ ((lent t : List ℕ) → pieces.Holds lent t (got .line) (now (kept .entry)) → pieces.Holds lent (t ++ input.firstLine (got .reader) (now (chunk .entry))) (r .line) (now (kept .exit))) ⌝ }
+    ensures { λ r. ⌜ (input.Whole (got .reader) (now (chunk .entry)) → (r .reader ≡ input.behindNewline (got .reader) (now (chunk .entry))) × ((r .whole ≡ true) × (now (chunk .exit) ≡ now (chunk .entry)))) ⌝ }
+{
     let reader = got.reader;
     let line = got.line;
     let from = reader.from;
     let to = reader.to;
-    if from < to {
-        if to <= chunk.len() {
-            return take(line, chunk, from, to, kept);
-        }
+    if (from < to) & (to <= chunk.len()) {
+        return take(line, chunk, from, to, kept);
     }
     let filled = fill(chunk);
     Got {
@@ -146,14 +170,19 @@ fn more(got: Got, chunk: &mut [u8], kept: &mut [u8]) -> Got {
     }
 }
 
-// The next line, its bytes from the start of `kept`. A proved loop has to end, and nothing says that the input does, so it counts
-// its turns down from a number that no run uses up.
-pub fn next(reader: Reader, chunk: &mut [u8], kept: &mut [u8]) -> Got {
-    let mut got = Got {
+// The next line, its bytes from the start of `kept`. A line that is read to its newline already is taken without another read; of
+// any other the input decides. The first turn stands before the loop, for it alone takes what was read before. A proved loop has to
+// end, and nothing says that the input does, so it counts its turns down from a number that no run uses up.
+pub fn next(reader: Reader, chunk: &mut [u8], kept: &mut [u8]) -> Got
+    ensures { λ r. ⌜ (input.Whole reader (now (chunk .entry)) → (r .reader ≡ input.behindNewline reader (now (chunk .entry))) × ((r .line ≡ input.lineOf (length (now (kept .entry))) (input.firstLine reader (now (chunk .entry)))) × ((now (kept .exit) ≡ input.keptOf (input.firstLine reader (now (chunk .entry))) (now (kept .entry))) × (now (chunk .exit) ≡ now (chunk .entry))))) ⌝ }
+    ensures { λ r. ⌜ ((s : List ℕ) × (input.Taken (length (now (kept .entry))) (input.firstLine reader (now (chunk .entry))) s (r .line) × (now (kept .exit) ≡ input.keptOf s (now (kept .entry))))) ⌝ }
+{
+    let begun = Got {
         reader,
         line: empty(),
         whole: false,
     };
+    let mut got = more(begun, chunk, kept);
     let mut turns = u64::MAX;
     while turns > 0 && !got.whole {
         got = more(got, chunk, kept);

@@ -120,7 +120,7 @@ module _ (line : List ℕ) (at : ℕ) (p : Place) (is : p ≡ wordAt line at) (i
   unfolding wordAt
   to-is = rw is
 
-  at-from : wordsOf (drop (p .from) line) ≡ wordsOf (drop at line)
+  pub at-from : wordsOf (drop (p .from) line) ≡ wordsOf (drop at line)
   at-from = rw (from-is, ← drop-drop) (past-spaces (drop at line))
 
   fresh-from : Fresh (drop (p .from) line)

@@ -71,11 +71,11 @@ paired [] = true
 paired (a ∷ []) = false
 paired (a ∷ (b ∷ s)) = (ltb (digitOf a) 16 && ltb (digitOf b) 16) && paired s
 
--- the bytes that the pairs stand for
+-- the bytes that the pairs stand for, up to the first that is none
 unfoldable pub pairs : List ℕ → List ℕ
 pairs [] = []
 pairs (a ∷ []) = []
-pairs (a ∷ (b ∷ s)) = (digitOf a * 16 + digitOf b) ∷ pairs s
+pairs (a ∷ (b ∷ s)) = pick (ltb (digitOf a) 16 && ltb (digitOf b) 16) ((digitOf a * 16 + digitOf b) ∷ pairs s) []
 
 -- how many bytes a lent buffer is to get: bad where a digit is none or has no partner, or the buffer is too short
 abbrev pub bytesOf : ℕ → List ℕ → Number

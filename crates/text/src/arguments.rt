@@ -6,12 +6,12 @@ use crate::words;
 ghost use mathlib.Core.Path.{_≡_};
 ghost use Prim.Native.Nat.{_<_, _≤_};
 ghost use mathlib.Core.Bool.{true};
-ghost use lib.Dec.{eqb};
+ghost use mathlib.Core.List.{[]};
 ghost use lib.ListN.{length, set, replicate};
 ghost use lib.Seq.{sets};
 ghost use Rattle.text.specs.Numbers.{letterOf};
 ghost use Rattle.text.specs.Rows.{fitting, numbersOf};
-ghost use Rattle.text.specs.Words.{wordAt, wordsOf};
+ghost use Rattle.text.specs.Words.{wordsOf};
 
 // A letter's number: b n k a are decimal, to 255, 2048, 20000 and 2^64 - 1; h and x are hex, to FF and 16 digits.
 pub fn read_one(letter: u8, word: &[u8]) -> Number
@@ -66,7 +66,7 @@ pub fn read(line: &[u8], letters: &[u8]) -> Row
 
 // No word at all.
 pub fn none(line: &[u8]) -> bool
-    ensures { λ r. ⌜ r ≡ eqb (wordAt (now (line .entry)) 0 .from) (wordAt (now (line .entry)) 0 .to) ⌝ }
+    ensures { λ r. ⌜ r ≡ fitting [] (wordsOf (now (line .entry))) ⌝ }
 {
     words::none_left(line, 0)
 }

@@ -5,7 +5,7 @@ ghost use mathlib.Core.Path.{_≡_};
 ghost use Prim.Native.Nat.{_+_, _*_, _≤_, _%_};
 ghost use mathlib.Core.Bool.{_&&_};
 ghost use lib.Dec.{ltb};
-ghost use lib.ListN.{length};
+ghost use lib.ListN.{length, take};
 ghost use lib.Seq.{sets};
 ghost use Rattle.laws.specs.Bits.{pick};
 ghost use Rattle.text.specs.Numbers.{digitOf, numberOf, decimalOf, hexOf, atMost, pairs, bytesOf};
@@ -116,7 +116,7 @@ fn pair(high: u8, low: u8) -> Number
 // An image's digit pairs as bytes, from the start of `out`: how many; bad where a digit is none or has no partner, or `out` has no room.
 pub fn bytes(s: &[u8], out: &mut [u8]) -> Number
     ensures { λ r. ⌜ r ≡ bytesOf (length (now (out .entry))) (now (s .entry)) ⌝ }
-    ensures { λ r. ⌜ ((r ≡ Number.Bad → ⊥) → now (out .exit) ≡ sets (now (out .entry)) 0 (pairs (now (s .entry)))) ⌝ }
+    ensures { λ _. ⌜ now (out .exit) ≡ sets (now (out .entry)) 0 (take (length (now (out .entry))) (pairs (now (s .entry)))) ⌝ }
 {
     let mut i: usize = 0;
     let mut n: usize = 0;

@@ -1,0 +1,2 @@
+-- which command a line is
+pub mod Obeying

@@ -1,0 +1,4 @@
+-- lines of the input
+pub mod Input
+-- a line that is read piece by piece
+pub mod Pieces

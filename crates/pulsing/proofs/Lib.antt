@@ -1,0 +1,3 @@
+-- laws that the functions' proofs cite
+pub mod Naming
+pub mod Calling

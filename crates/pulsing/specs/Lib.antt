@@ -1,0 +1,3 @@
+-- what each of these commands does
+pub mod Lines
+pub mod Calls

@@ -1,0 +1,66 @@
+// What the program `list` prints of an image: the head and a line for each word, without the last newline. Document 01, figure 13.
+use crate::put_named;
+use crate::put_named2;
+use crate::put_named16;
+use crate::put_refusal;
+use image::Read;
+ghost use Rattle.text.specs.Puts.{Puts};
+ghost use Rattle.replies.specs.Texts as texts;
+
+// "contents hex, 16 and 2 capital digits, other numbers decimal"
+fn put_line(out: &mut [u8], at: usize, i: usize, word: u64, response: u8) -> usize
+    ensures { λ r. ⌜ Puts (texts.wordText i word response) at (now (out .entry)) (now (out .exit)) r ⌝ }
+{
+    let number = put_named(out, at, b"\n", i as u64);
+    let content = put_named16(out, number, b" ", word);
+    put_named2(out, content, b" ", response)
+}
+
+fn put_entry(out: &mut [u8], at: usize, i: usize, words: &[u64], responses: &[u8]) -> usize
+    ensures { λ r. ⌜ Puts (texts.entryText i (now (words .entry)) (now (responses .entry))) at (now (out .entry)) (now (out .exit)) r ⌝ }
+{
+    if i < words.len() {
+        if i < responses.len() {
+            return put_line(out, at, i, words[i], responses[i]);
+        }
+    }
+    at
+}
+
+fn put_lines(out: &mut [u8], at: usize, words: &[u64], responses: &[u8], n: usize) -> usize
+    ensures { λ r. ⌜ Puts (texts.wordsText n 0 (now (words .entry)) (now (responses .entry))) at (now (out .entry)) (now (out .exit)) r ⌝ }
+{
+    let mut end = at;
+    let mut i: usize = 0;
+    while i < n {
+        end = put_entry(out, end, i, words, responses);
+        i += 1;
+    }
+    end
+}
+
+fn put_found(out: &mut [u8], found: Read, words: &[u64], responses: &[u8]) -> usize
+    ensures { λ r. ⌜ Puts (texts.foundText found (now (words .entry)) (now (responses .entry))) 0 (now (out .entry)) (now (out .exit)) r ⌝ }
+{
+    match found {
+        Read::Machine {
+            width,
+            words: n,
+            held: _,
+        } => {
+            let head = put_named(out, 0, b"words ", n as u64);
+            let at = put_named(out, head, b" width ", width as u64);
+            put_lines(out, at, words, responses, n)
+        }
+        Read::Refused(why) => put_refusal(out, why),
+    }
+}
+
+pub(crate) fn put(out: &mut [u8], image: &[u8]) -> usize
+    ensures { λ r. ⌜ Puts (texts.listText (now (image .entry))) 0 (now (out .entry)) (now (out .exit)) r ⌝ }
+{
+    let mut words = [0u64; 1024];
+    let mut responses = [0u8; 1024];
+    let found = image::reading::read(image, &mut words, &mut responses);
+    put_found(out, found, &words, &responses)
+}

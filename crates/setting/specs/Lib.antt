@@ -1,0 +1,2 @@
+-- what each of these commands does
+pub mod Settings
