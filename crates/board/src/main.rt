@@ -4,7 +4,6 @@ use commands::Board;
 use commands::Outcome;
 use lines::Line;
 use lines::Reader;
-use text::output;
 
 const COMMENT: u8 = 35;
 

@@ -3,7 +3,7 @@
 use Prim.Native.Nat.{ℕ}
 use Rattle.machine.specs.declared.Panel.{Panel}
 use Rattle.plans.specs.declared.Held.{Held}
-use Rattle.plans.specs.declared.Held.the-variants.{Nothing, Holds}
+use Rattle.plans.specs.declared.Held.the-variants.{Nothing}
 use Rattle.commands.specs.declared.Board.{Board}
 
 -- "panel all 0"

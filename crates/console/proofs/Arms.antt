@@ -5,12 +5,11 @@ use Prim.Native.String.{String}
 use native.Mathlib.Omega.{arith}
 use mathlib.Core.Path.{_≡_, refl, _∙_}
 use mathlib.Core.Bool.{true, false, _&&_}
-use mathlib.Core.List.{List, [], _∷_, _++_}
+use mathlib.Core.List.{List, _++_}
 use lib.Dec.{leb}
 use lib.ListN.{length, getD, take, drop, length-drop, List·getD-eq-default}
 use lib.Seq.{take-all}
 use borrow.Author.Tests.{le-leb, lt-leb}
-use Rattle.laws.specs.Bits.{pick}
 use Rattle.text.specs.Ascii.{ascii}
 use Rattle.text.specs.declared.Place.{Place}
 use Rattle.text.specs.Words.{wordAt, wordsOf, placeOf}

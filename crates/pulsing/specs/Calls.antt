@@ -22,7 +22,6 @@ use Rattle.commands.specs.declared.Outcome.{Outcome}
 use Rattle.commands.specs.declared.Outcome.the-variants as outcome
 use Rattle.pulsing.specs.declared.Named.{Named}
 use Rattle.pulsing.specs.declared.Named.the-variants.{Are, Bad}
-use Rattle.pulsing.specs.Lines.{linesOf}
 
 -- ---- pulse and cells
 

@@ -1,5 +1,5 @@
 -- laws that the functions' proofs cite
-pub mod Putting
+pub mod Loops
 pub mod Answers
 pub mod Lengths
 pub mod Room

@@ -1,63 +1,26 @@
 // What the console prints of each outcome: one line, but for the list. docs/BOARD.md has the language.
-mod listing;
-
 use commands::Outcome;
 use machine::Panel;
-use machine::Refusal;
 use plans::Command;
-use text::output;
-ghost use mathlib.Core.Path.{_≡_};
 ghost use mathlib.Core.List.{_∷_, [], _++_};
 ghost use Rattle.laws.specs.Bits.{pick};
-ghost use Rattle.machine.specs.Refusals.{numberOf};
 ghost use Rattle.text.specs.Ascii.{ascii};
-ghost use Rattle.text.specs.Numbers.{hexDigits, decimalDigits};
-ghost use Rattle.text.specs.Puts.{Puts};
+ghost use Rattle.listing.specs.Lists.{listText};
+ghost use Rattle.output.specs.Puts.{Puts};
 ghost use Rattle.replies.specs.Texts as texts;
 
 const NEWLINE: u8 = 10;
 
 // ---- a part of a line, behind the bytes that are used
 
-// A name and a number in decimal.
-pub(crate) fn put_named(out: &mut [u8], at: usize, name: &[u8], x: u64) -> usize
-    ensures { λ r. ⌜ Puts (now (name .entry) ++ decimalDigits 20 x) at (now (out .entry)) (now (out .exit)) r ⌝ }
-{
-    let n = output::put(out, at, name);
-    output::put_decimal(out, n, x)
-}
-
-// A name and an N-bit register or word.
-pub(crate) fn put_named16(out: &mut [u8], at: usize, name: &[u8], x: u64) -> usize
-    ensures { λ r. ⌜ Puts (now (name .entry) ++ hexDigits 16 x) at (now (out .entry)) (now (out .exit)) r ⌝ }
-{
-    let n = output::put(out, at, name);
-    output::put_hex16(out, n, x)
-}
-
-// A response or a byte of an image.
-fn put_pair(out: &mut [u8], at: usize, x: u8) -> usize
-    ensures { λ r. ⌜ Puts (texts.pair x) at (now (out .entry)) (now (out .exit)) r ⌝ }
-{
-    output::put_hex2(out, at, x as u64)
-}
-
-// A name and an 8-bit register.
-pub(crate) fn put_named2(out: &mut [u8], at: usize, name: &[u8], x: u8) -> usize
-    ensures { λ r. ⌜ Puts (now (name .entry) ++ texts.pair x) at (now (out .entry)) (now (out .exit)) r ⌝ }
-{
-    let n = output::put(out, at, name);
-    put_pair(out, n, x)
-}
-
 fn put_registers(out: &mut [u8], at: usize, panel: Panel) -> usize
     ensures { λ r. ⌜ Puts (texts.registersText panel) at (now (out .entry)) (now (out .exit)) r ⌝ }
 {
-    let comp = put_named16(out, at, b"comp ", panel.comp);
-    let sdr = put_named16(out, comp, b" sdr ", panel.sdr);
-    let sc1 = put_named16(out, sdr, b" sc1 ", panel.sc1);
-    let sc2 = put_named16(out, sc1, b" sc2 ", panel.sc2);
-    put_named16(out, sc2, b" mor ", panel.mor)
+    let comp = output::put_named16(out, at, b"comp ", panel.comp);
+    let sdr = output::put_named16(out, comp, b" sdr ", panel.sdr);
+    let sc1 = output::put_named16(out, sdr, b" sc1 ", panel.sc1);
+    let sc2 = output::put_named16(out, sc1, b" sc2 ", panel.sc2);
+    output::put_named16(out, sc2, b" mor ", panel.mor)
 }
 
 // The panel but for its address.
@@ -65,41 +28,9 @@ fn put_panel(out: &mut [u8], at: usize, panel: Panel) -> usize
     ensures { λ r. ⌜ Puts (texts.panelText panel) at (now (out .entry)) (now (out .exit)) r ⌝ }
 {
     let registers = put_registers(out, at, panel);
-    let key = put_named2(out, registers, b" key ", panel.key);
-    let care = put_named2(out, key, b" care ", panel.care);
-    put_named2(out, care, b" target ", panel.target)
-}
-
-// ---- refusals
-
-fn number_of(why: Refusal) -> u64
-    ensures { λ r. ⌜ r ≡ numberOf why ⌝ }
-{
-    match why {
-        Refusal::Size => 1,
-        Refusal::Width => 2,
-        Refusal::WordTooWide(_) => 3,
-        Refusal::PanelTooWide => 4,
-        Refusal::TwoCodes => 5,
-        Refusal::WrongLines => 6,
-        Refusal::NoSuchWord => 7,
-        Refusal::Unfit => 8,
-        Refusal::Malformed(_) => 9,
-        Refusal::NoRoom => 10,
-        Refusal::NotShown => 11,
-    }
-}
-
-// "`refused K`, for number 3 `refused 3 word I`, for number 9 `refused 9 at I`"
-pub(crate) fn put_refusal(out: &mut [u8], why: Refusal) -> usize
-    ensures { λ r. ⌜ Puts (texts.refusalText why) 0 (now (out .entry)) (now (out .exit)) r ⌝ }
-{
-    let n = put_named(out, 0, b"refused ", number_of(why));
-    match why {
-        Refusal::WordTooWide(word) => put_named(out, n, b" word ", word.0 as u64),
-        Refusal::Malformed(at) => put_named(out, n, b" at ", at as u64),
-        _ => n,
-    }
+    let key = output::put_named2(out, registers, b" key ", panel.key);
+    let care = output::put_named2(out, key, b" care ", panel.care);
+    output::put_named2(out, care, b" target ", panel.target)
 }
 
 // ---- the other lines
@@ -107,8 +38,8 @@ pub(crate) fn put_refusal(out: &mut [u8], why: Refusal) -> usize
 fn put_pulsed(out: &mut [u8], count: usize, read: u64) -> usize
     ensures { λ r. ⌜ Puts (texts.printed (Outcome.Pulsed count read) []) 0 (now (out .entry)) (now (out .exit)) r ⌝ }
 {
-    let n = put_named(out, 0, b"count ", count as u64);
-    put_named16(out, n, b" read ", read)
+    let n = output::put_named(out, 0, b"count ", count as u64);
+    output::put_named16(out, n, b" read ", read)
 }
 
 fn put_address(out: &mut [u8], panel: Panel) -> usize
@@ -116,7 +47,7 @@ fn put_address(out: &mut [u8], panel: Panel) -> usize
 {
     let n = put_panel(out, 0, panel);
     let address = panel.address;
-    put_named(out, n, b" address ", address.0 as u64)
+    output::put_named(out, n, b" address ", address.0 as u64)
 }
 
 fn put_line_name(out: &mut [u8], search: bool) -> usize
@@ -137,7 +68,7 @@ fn put_step(out: &mut [u8], command: Command, count: usize, held: bool) -> usize
     let panel = command.panel;
     let name = put_line_name(out, raised.search);
     let registers = put_panel(out, name, panel);
-    let n = put_named(out, registers, b" count ", count as u64);
+    let n = output::put_named(out, registers, b" count ", count as u64);
     if held {
         output::put(out, n, b" held")
     } else {
@@ -151,7 +82,7 @@ fn put_bytes(out: &mut [u8], bytes: &[u8]) -> usize
     let mut n = output::put(out, 0, b"image ");
     let mut i: usize = 0;
     while i < bytes.len() {
-        n = put_pair(out, n, bytes[i]);
+        n = output::put_pair(out, n, bytes[i]);
         i += 1;
     }
     n
@@ -159,7 +90,7 @@ fn put_bytes(out: &mut [u8], bytes: &[u8]) -> usize
 
 // The first `n` bytes of what was lent for an image, or a list of what they say.
 fn put_image(out: &mut [u8], bytes: &[u8], n: usize, listed: bool) -> usize
-    ensures { λ r. ⌜ Puts (texts.ofImage (now (bytes .entry)) n (λ image. pick listed (texts.listText image) (ascii "image " ++ texts.pairsText image))) 0 (now (out .entry)) (now (out .exit)) r ⌝ }
+    ensures { λ r. ⌜ Puts (texts.ofImage (now (bytes .entry)) n (λ image. pick listed (listText image) (ascii "image " ++ texts.pairsText image))) 0 (now (out .entry)) (now (out .exit)) r ⌝ }
 {
     if bytes.len() < n {
         return 0;
@@ -177,9 +108,9 @@ fn put_outcome(out: &mut [u8], outcome: Outcome, bytes: &[u8]) -> usize
     match outcome {
         Outcome::BadLine => output::put(out, 0, b"bad line"),
         Outcome::Fine => output::put(out, 0, b"ok"),
-        Outcome::Refused(why) => put_refusal(out, why),
+        Outcome::Refused(why) => listing::put_refusal(out, why),
         Outcome::Pulsed { count, read } => put_pulsed(out, count, read),
-        Outcome::Word(word) => put_named(out, 0, b"word ", word.0 as u64),
+        Outcome::Word(word) => output::put_named(out, 0, b"word ", word.0 as u64),
         Outcome::NoWord => output::put(out, 0, b"none"),
         Outcome::Registers(panel) => put_address(out, panel),
         Outcome::Gave {
@@ -187,10 +118,10 @@ fn put_outcome(out: &mut [u8], outcome: Outcome, bytes: &[u8]) -> usize
             count,
             held,
         } => put_step(out, command, count, held),
-        Outcome::Pulses(k) => put_named(out, 0, b"pulses ", k),
+        Outcome::Pulses(k) => output::put_named(out, 0, b"pulses ", k),
         Outcome::Image(n) => put_image(out, bytes, n, false),
         Outcome::Listing(n) => put_image(out, bytes, n, true),
-        Outcome::Length(n) => put_named(out, 0, b"image ", n as u64),
+        Outcome::Length(n) => output::put_named(out, 0, b"image ", n as u64),
     }
 }
 

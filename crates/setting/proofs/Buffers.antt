@@ -1,7 +1,7 @@
 -- A buffer cleared entry by entry.
 -- Assumes nothing.
 use Prim.Native.Nat.{ℕ, _+_, _<_}
-use mathlib.Core.Path.{_≡_, refl, sym, _∙_}
+use mathlib.Core.Path.{_≡_, sym, _∙_}
 use mathlib.Core.List.{List}
 use native.Mathlib.Numerals.{add-one}
 use lib.ListN.{length, take, set, replicate, replicate-append-replicate}

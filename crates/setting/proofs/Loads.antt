@@ -1,7 +1,7 @@
 -- A register's name and its number on a line, and the panel after the load.
 -- Assumes nothing.
 use Prim.Native.Nat.{ℕ, _-_, _<_, _≤_}
-use mathlib.Core.Bool.{Bool, true, false, not, _&&_}
+use mathlib.Core.Bool.{Bool, true, false, not}
 use mathlib.Core.Path.{_≡_, refl, ap, sym, _∙_}
 use mathlib.Core.List.{List, [], _∷_}
 use mathlib.Core.Logic.{⊎-elim}
@@ -19,7 +19,6 @@ use Rattle.text.specs.Rows.{fits, values, numberAt}
 use Rattle.text.specs.Words.{wordAt, joined, wordsOf, alike, placeOf}
 use Rattle.text.proofs.Runs.{here-none, here-one, here-ordered}
 use Rattle.commands.specs.declared.Board.{Board}
-use Rattle.commands.specs.declared.Turn.{Turn}
 use Rattle.commands.specs.Ends.{badLine, fine}
 use Rattle.setting.proofs.Letters.{taken}
 use Rattle.setting.specs.Settings.{panelOf, withPanel, registerNames, letterFor, loadedAt, loaded}

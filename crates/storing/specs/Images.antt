@@ -14,7 +14,6 @@ use Rattle.image.specs.declared.Wrote.the-variants as wrote
 use Rattle.image.specs.declared.Read.{Read}
 use Rattle.image.specs.declared.Read.the-variants as read
 use Rattle.image.specs.Calls.{writeOf, written, readOf, wordsRead, responsesRead}
-use Rattle.text.specs.Ascii.{ascii}
 use Rattle.text.specs.declared.Number.{Number}
 use Rattle.text.specs.declared.Number.the-variants.{Is, Bad}
 use Rattle.text.specs.Numbers.{letterOf, pairs, bytesOf}

@@ -1,7 +1,6 @@
 -- laws that the functions' proofs cite
 pub mod Letters
 pub mod Pairs
-pub mod Putting
 pub mod Reading
 pub mod Rows
 pub mod Runs

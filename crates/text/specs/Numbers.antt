@@ -1,8 +1,8 @@
--- What a word of a line says as a number, and the digits in which one is printed.
+-- What a word of a line says as a number.
 -- Assumes nothing.
-use Prim.Native.Nat.{ℕ, zero, suc, _+_, _-_, _*_, _/_, _%_, _^_}
+use Prim.Native.Nat.{ℕ, _+_, _-_, _*_, _^_}
 use mathlib.Core.Bool.{Bool, true, false, _&&_}
-use mathlib.Core.List.{List, [], _∷_, _++_}
+use mathlib.Core.List.{List, [], _∷_}
 use lib.Dec.{ltb, leb, eqb}
 use lib.ListN.{length}
 use Rattle.laws.specs.Bits.{pick}
@@ -50,20 +50,6 @@ letterOf letter s =
     (pick (eqb letter 107) (atMost 20000 (decimalOf s))
     (pick (eqb letter 97) (decimalOf s)
     (pick (eqb letter 104) (atMost 255 (hexOf s)) (hexOf s)))))
-
--- the digits 0 to 9 and A to F, of a number's last place in hex
-unfoldable pub capital : ℕ → ℕ
-capital x = pick (ltb (x % 16) 10) (48 + x % 16) (55 + x % 16)
-
--- "Contents are printed in hex with capital digits, 16 of them for a word": the last k digits, the highest first
-unfoldable pub hexDigits : ℕ → ℕ → List ℕ
-hexDigits zero x = []
-hexDigits (suc k) x = capital (x / 16 ^ k) ∷ hexDigits k x
-
--- "Other numbers are printed in decimal": all digits of a number that has at most k, the highest first
-unfoldable pub decimalDigits : ℕ → ℕ → List ℕ
-decimalDigits zero x = []
-decimalDigits (suc k) x = pick (ltb x 10) ((48 + x) ∷ []) (decimalDigits k (x / 10) ++ ((48 + x % 10) ∷ []))
 
 -- "An image is one word of digit pairs": whether each digit is one and has its partner
 unfoldable pub paired : List ℕ → Bool

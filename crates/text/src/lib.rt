@@ -1,8 +1,7 @@
-// The text of the board's console: a line's words and numbers, taken apart, and an answer's bytes, put together.
+// The text of the board's console: a line's words and numbers, taken apart. `output` puts an answer's bytes together.
 // It knows nothing of the machine. docs/BOARD.md has the language.
 pub mod arguments;
 pub mod numbers;
-pub mod output;
 pub mod words;
 
 // Where a word stands in a line: from its first byte to the place after its last.

@@ -5,7 +5,6 @@ use Prim.Native.Nat.{ℕ, zero, suc, _-_, _^_}
 use mathlib.Core.List.{List}
 use Rattle.laws.specs.Bits.{pick}
 use Rattle.plans.specs.declared.Job.{Job}
-use Rattle.plans.specs.declared.Held.{Held}
 use Rattle.plans.specs.declared.Held.the-variants.{Holds}
 use Rattle.tally.specs.declared.Total.{Total}
 use Rattle.tally.specs.declared.Total.the-variants as total

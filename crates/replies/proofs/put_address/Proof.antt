@@ -1,5 +1,6 @@
-use Rattle.replies.specs.Texts.{panelText, named}
-use Rattle.replies.proofs.Putting.{puts₂}
+use Rattle.listing.specs.Lists.{named}
+use Rattle.replies.specs.Texts.{panelText}
+use Rattle.output.proofs.Putting.{puts₂}
 use borrow.Author.Needs.{needs}
 use Rattle.replies.proofs.put_address.Statement.{statement}
 use Rattle.replies.proofs.put_address.Tie as tie

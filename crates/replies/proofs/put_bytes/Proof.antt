@@ -4,7 +4,8 @@ use native.Mathlib.Omega.{arith}
 use lib.ListN.{length, drop}
 use Rattle.text.specs.Ascii.{ascii}
 use Rattle.replies.specs.Texts.{pairsText}
-use Rattle.replies.proofs.Putting.{puts₂, Rest, all-left, pairs-less, pairs-all}
+use Rattle.output.proofs.Putting.{puts₂, Rest, all-left}
+use Rattle.replies.proofs.Loops.{pairs-less, pairs-all}
 use borrow.Author.Needs.{needs}
 use Rattle.replies.proofs.put_bytes.Statement.{statement}
 use Rattle.replies.proofs.put_bytes.Tie as tie

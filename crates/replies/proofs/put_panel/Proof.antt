@@ -1,5 +1,6 @@
-use Rattle.replies.specs.Texts.{registersText, named2}
-use Rattle.replies.proofs.Putting.{puts₄}
+use Rattle.listing.specs.Lists.{named2}
+use Rattle.replies.specs.Texts.{registersText}
+use Rattle.output.proofs.Putting.{puts₄}
 use borrow.Author.Needs.{needs}
 use Rattle.replies.proofs.put_panel.Statement.{statement}
 use Rattle.replies.proofs.put_panel.Tie as tie

@@ -1,5 +1,5 @@
-use Rattle.replies.specs.Texts.{named, named16}
-use Rattle.replies.proofs.Putting.{puts₂}
+use Rattle.listing.specs.Lists.{named, named16}
+use Rattle.output.proofs.Putting.{puts₂}
 use borrow.Author.Needs.{needs}
 use Rattle.replies.proofs.put_pulsed.Statement.{statement}
 use Rattle.replies.proofs.put_pulsed.Tie as tie

@@ -1,5 +1,5 @@
-use Rattle.replies.specs.Texts.{named16}
-use Rattle.replies.proofs.Putting.{puts₅}
+use Rattle.listing.specs.Lists.{named16}
+use Rattle.output.proofs.Putting.{puts₅}
 use borrow.Author.Needs.{needs}
 use Rattle.replies.proofs.put_registers.Statement.{statement}
 use Rattle.replies.proofs.put_registers.Tie as tie

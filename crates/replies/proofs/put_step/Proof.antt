@@ -1,7 +1,8 @@
 use Rattle.laws.specs.Bits.{pick}
 use Rattle.text.specs.Ascii.{ascii}
-use Rattle.replies.specs.Texts.{panelText, named}
-use Rattle.replies.proofs.Putting.{puts₄}
+use Rattle.listing.specs.Lists.{named}
+use Rattle.replies.specs.Texts.{panelText}
+use Rattle.output.proofs.Putting.{puts₄}
 use borrow.Author.Needs.{needs}
 use Rattle.replies.proofs.put_step.Statement.{statement}
 use Rattle.replies.proofs.put_step.Tie as tie

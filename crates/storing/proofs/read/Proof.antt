@@ -1,7 +1,5 @@
 use Prim.Native.Nat.{_-_}
-use mathlib.Core.Path.{_≡_, ap}
 use native.Mathlib.Omega.{arith}
-use lib.ListN.{take}
 use Rattle.storing.proofs.Reading.{words-short, responses-short, into}
 use borrow.Author.Needs.{needs}
 use Rattle.storing.proofs.read.Statement.{statement}

@@ -1,4 +1,3 @@
-use native.Mathlib.Omega.{arith}
 use lib.ListN.{drop}
 use Rattle.text.specs.Words.{wordsOf}
 use Rattle.storing.proofs.Digits.{image-holds}

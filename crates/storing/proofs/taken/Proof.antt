@@ -1,4 +1,3 @@
-use mathlib.Core.Path.{_≡_, sym, _∙_}
 use borrow.Author.Needs.{needs}
 use Rattle.storing.proofs.Reading.{machine-taken, refusal-taken}
 use Rattle.storing.proofs.taken.Statement.{statement}

@@ -1,4 +1,3 @@
-use mathlib.Core.Path.{refl}
 use Rattle.text.proofs.words.is_space.Statement.{statement}
 use Rattle.text.proofs.words.is_space.Tie as tie
 

@@ -1,0 +1,3 @@
+-- a number's digits, and a text put into a buffer
+pub mod Digits
+pub mod Puts
