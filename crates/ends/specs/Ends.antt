@@ -9,6 +9,7 @@ use lib.ListN.{length, getD}
 use Rattle.laws.specs.Bits.{bit, digit}
 use Rattle.machine.specs.declared.Check.the-variants as check
 use Rattle.machine.specs.Machine.{Machine, responseBits, selected}
+pub use Rattle.machine.specs.Machine.{response}
 use Rattle.machine.specs.Pulse.{countOf, pulsed}
 use Rattle.machine.specs.Refusals.{machineCheck}
 use Rattle.plans.specs.declared.Span.{Span}
@@ -22,12 +23,9 @@ use Rattle.jobs.specs.Calls.{startOf, stepOf}
 use Rattle.tally.specs.Totals.{valueOf, pulses}
 use Rattle.jobs.specs.Runs.{State, stepped, steps}
 
--- word k and its response
+-- word k's content
 abbrev pub word : Machine → ℕ → ℕ
 word m k = getD (m .words) k 0
-
-abbrev pub response : Machine → ℕ → ℕ
-response m k = getD (m .responses) k 0
 
 -- the start of the job is accepted: what is then held is the job at its first place
 abbrev pub Accepted : Machine → Job → Type 0

@@ -2,14 +2,11 @@
 use machine::Answer;
 use machine::Lines;
 use machine::Panel;
-use machine::Refusal;
 use machine::WordSlice;
 ghost use mathlib.Core.Path.{_≡_};
-ghost use Prim.Native.Nat.{_≤_, _<_};
-ghost use lib.Dec.{eqb};
-ghost use Rattle.laws.specs.Bits.{bit};
+ghost use Prim.Native.Nat.{_<_};
 ghost use Rattle.machine.specs.Machine.{machine};
-ghost use Rattle.machine.specs.Refusals.{numberOf, answerOf, after};
+ghost use Rattle.machine.specs.Refusals.{answerOf, after};
 ghost use Rattle.entries.specs.Numbers.{panelOf, raised, linesOf, resultOf};
 
 fn is_raised(lines: u8, i: u32) -> bool
@@ -33,30 +30,12 @@ fn lines_of(lines: u8) -> Lines
     }
 }
 
-fn number_of(why: Refusal) -> u64
-    ensures { λ r. ⌜ (r ≡ numberOf why) × (r ≤ 11) ⌝ }
-{
-    match why {
-        Refusal::Size => 1,
-        Refusal::Width => 2,
-        Refusal::WordTooWide(_) => 3,
-        Refusal::PanelTooWide => 4,
-        Refusal::TwoCodes => 5,
-        Refusal::WrongLines => 6,
-        Refusal::NoSuchWord => 7,
-        Refusal::Unfit => 8,
-        Refusal::Malformed(_) => 9,
-        Refusal::NoRoom => 10,
-        Refusal::NotShown => 11,
-    }
-}
-
 fn result_of(answer: Answer) -> u64
     ensures { λ r. ⌜ r ≡ resultOf answer ⌝ }
 {
     match answer {
         Answer::Done { count, read: _ } => count as u64,
-        Answer::Refused(why) => number_of(why) * 4294967296,
+        Answer::Refused(why) => machine::number_of(why) * 4294967296,
     }
 }
 

@@ -1,36 +1,16 @@
 // What the program `list` prints of an image: the head and a line for each word, without the last newline. Document 01, figure 13.
 use image::Read;
 use machine::Refusal;
-ghost use mathlib.Core.Path.{_≡_};
-ghost use Rattle.machine.specs.Refusals.{numberOf};
 ghost use Rattle.output.specs.Puts.{Puts};
 ghost use Rattle.listing.specs.Lists as lists;
 
 // ---- refusals
 
-fn number_of(why: Refusal) -> u64
-    ensures { λ r. ⌜ r ≡ numberOf why ⌝ }
-{
-    match why {
-        Refusal::Size => 1,
-        Refusal::Width => 2,
-        Refusal::WordTooWide(_) => 3,
-        Refusal::PanelTooWide => 4,
-        Refusal::TwoCodes => 5,
-        Refusal::WrongLines => 6,
-        Refusal::NoSuchWord => 7,
-        Refusal::Unfit => 8,
-        Refusal::Malformed(_) => 9,
-        Refusal::NoRoom => 10,
-        Refusal::NotShown => 11,
-    }
-}
-
 // "`refused K`, for number 3 `refused 3 word I`, for number 9 `refused 9 at I`"
 pub fn put_refusal(out: &mut [u8], why: Refusal) -> usize
     ensures { λ r. ⌜ Puts (lists.refusalText why) 0 (now (out .entry)) (now (out .exit)) r ⌝ }
 {
-    let n = output::put_named(out, 0, b"refused ", number_of(why));
+    let n = output::put_named(out, 0, b"refused ", machine::number_of(why));
     match why {
         Refusal::WordTooWide(word) => output::put_named(out, n, b" word ", word.0 as u64),
         Refusal::Malformed(at) => output::put_named(out, n, b" at ", at as u64),

@@ -4,6 +4,7 @@ use Prim.Native.Nat.{ℕ, zero, suc, _+_, _-_}
 use mathlib.Core.Bool.{Bool, true, false, _||_}
 use mathlib.Core.List.{List, [], _∷_}
 use lib.Dec.{eqb}
+use lib.ListN.{getD}
 use Rattle.laws.specs.Bits.{bit, number, every, pick}
 
 -- "n words, 1 to 1,024, each of N bits, 1 to 64. .. Each word has 8 response bits, numbered 0 to 7."
@@ -18,6 +19,10 @@ machine n ws rs = record { width = n; words = ws; responses = rs }
 
 abbrev pub responseBits : ℕ
 responseBits = 8
+
+-- word j's response
+abbrev pub response : Machine → ℕ → ℕ
+response m j = getD (m .responses) j 0
 
 -- A syllable is a lowest bit and a width ('Jobs': "A syllable here is a lowest bit and a width").
 pub record Syllable : Type 0 where

@@ -6,7 +6,7 @@ ghost use Rattle.laws.specs.Bits.{digit};
 ghost use Rattle.machine.specs.Panel.{registers, load};
 ghost use Rattle.machine.specs.Machine.{machine};
 ghost use Rattle.machine.specs.Resolution.{lowest};
-ghost use Rattle.machine.specs.Refusals.{badSize, badWidth, tooWide, badPanel, badLines, badAddress, refuseWord, machineCheck, commandCheck};
+ghost use Rattle.machine.specs.Refusals.{badSize, badWidth, tooWide, badPanel, badLines, badAddress, refuseWord, machineCheck, commandCheck, numberOf};
 
 // A word's response bits, and how many they are: named once.
 pub type Response = u8;
@@ -129,7 +129,7 @@ pub enum Found {
     Nothing,
 }
 
-// Why a call is turned down; the definition numberOf gives document 01's number of each.
+// Why a call is turned down.
 pub enum Refusal {
     Size,
     Width,
@@ -142,6 +142,25 @@ pub enum Refusal {
     Malformed(usize),
     NoRoom,
     NotShown,
+}
+
+// Document 01's number of each.
+pub fn number_of(why: Refusal) -> u64
+    ensures { λ r. ⌜ (r ≡ numberOf why) × (r ≤ 11) ⌝ }
+{
+    match why {
+        Refusal::Size => 1,
+        Refusal::Width => 2,
+        Refusal::WordTooWide(_) => 3,
+        Refusal::PanelTooWide => 4,
+        Refusal::TwoCodes => 5,
+        Refusal::WrongLines => 6,
+        Refusal::NoSuchWord => 7,
+        Refusal::Unfit => 8,
+        Refusal::Malformed(_) => 9,
+        Refusal::NoRoom => 10,
+        Refusal::NotShown => 11,
+    }
 }
 
 // What checking a call finds.

@@ -10,6 +10,7 @@ use Rattle.machine.specs.declared.Found.{Found}
 use Rattle.machine.specs.declared.Found.the-variants.{At, Nothing}
 use Rattle.machine.specs.declared.Check.the-variants.{Passed}
 use Rattle.machine.specs.Machine.{Machine}
+pub use Rattle.machine.specs.Machine.{response}
 use Rattle.rounds.specs.declared.Verdict.{Verdict}
 use Rattle.rounds.specs.Round.{has, answerCheck, afterAnswer}
 
@@ -29,10 +30,6 @@ responder x m i = getD (responders x m) i 0
 -- word j is none of the first n of a list of words
 abbrev pub NotAmong : List ℕ → ℕ → ℕ → Type 0
 NotAmong ks n j = (i : ℕ) → i < n → getD ks i 0 ≡ j → ⊥
-
--- word j's response
-abbrev pub response : Machine → ℕ → ℕ
-response m j = getD (m .responses) j 0
 
 -- the first of a list of words, or none
 abbrev pub firstOf : List ℕ → Found

@@ -1,16 +1,27 @@
 // The sweeps over all words: loops with a constant number of word operations for each word, however many syllables there are.
 // They know nothing of the machine; their contracts say which rule of specs/Rules each word and response takes, and how many words pass.
 // Document 01, 'One pulse'. Words and response bits are read before they change: "All results are worked out from the machine before the pulse."
+mod word;
+
 ghost use mathlib.Core.Path.{_≡_};
 ghost use mathlib.Core.Bool.{true, false};
 ghost use Prim.Native.Nat.{ℕ, _+_, _-_, _≤_, _<_, min};
 ghost use lib.ListN.{length, getD};
-ghost use Rattle.laws.specs.Bits.{pick};
 ghost use Rattle.laws.specs.Lists.{count};
 ghost use Rattle.sweeps.specs.Along.{along, each, many};
 ghost use Rattle.sweeps.specs.Along as lists;
-ghost use Rattle.sweeps.specs.Rules.{test, flag, chosen, hit, put, mark, found, answer, written, summed, new, choice, gated, changed, takes, flipped};
+ghost use Rattle.sweeps.specs.Rules.{flag, chosen, hit, mark, found, answer, choice, gated, changed, takes, flipped};
 use machine::Response;
+use word::choice_of;
+pub use word::chosen_of;
+use word::flag_of;
+use word::flipped_of;
+use word::hit_of;
+use word::kept;
+pub use word::new_word;
+use word::put_in;
+use word::summed_of;
+use word::written_of;
 
 // What a search works out of the panel once. In each syllable the word's cared bits, turned by a flip, are held against a limit; the carry out of
 // the bits below a syllable's top decides with the top itself. `topcare` and `topflip` are care and flip at the tops of the syllables that ask
@@ -41,87 +52,6 @@ pub struct Changes {
     pub low: u64,
     pub tops: u64,
 }
-
-// ---- one word
-
-fn test_of(m: Masks, w: u64) -> u64
-    ensures { λ r. ⌜ r ≡ test m w ⌝ }
-{
-    let low = std::num::wrapping_add_u64(m.rest, (w & m.lowcare) ^ m.lowflip);
-    ((w & m.topcare) ^ m.topflip) & (low ^ m.limit)
-}
-
-fn flag_of(m: Masks, w: u64) -> u8
-    ensures { λ r. ⌜ r ≡ flag m w ⌝ }
-{
-    (test_of(m, w) == m.want) as u8
-}
-
-pub fn chosen_of(p: Tags, r: Response) -> bool
-    ensures { λ h. ⌜ h ≡ chosen p r ⌝ }
-{
-    (r & p.care) == (p.key & p.care)
-}
-
-fn choice_of(p: Tags, r: Response) -> u8
-    ensures { λ x. ⌜ x ≡ choice p r ⌝ }
-{
-    chosen_of(p, r) as u8
-}
-
-fn hit_of(p: Tags, x: u8, r: Response) -> bool
-    ensures { λ h. ⌜ h ≡ hit p x r ⌝ }
-{
-    (x == 1) & chosen_of(p, r)
-}
-
-fn put_in(target: Response, h: bool, r: Response) -> Response
-    ensures { λ x. ⌜ x ≡ put target h r ⌝ }
-{
-    if h { r | target } else { r & !target }
-}
-
-fn written_of(q: Changes, w: u64) -> u64
-    ensures { λ r. ⌜ r ≡ written q w ⌝ }
-{
-    w ^ ((w ^ q.comp) & q.mor)
-}
-
-// "a 64-bit syllable at 2^64-1 plus 1 gives 0"
-fn summed_of(q: Changes, w: u64) -> u64
-    ensures { λ r. ⌜ r ≡ summed q w ⌝ }
-{
-    let low = std::num::wrapping_add_u64(w & q.low, q.rest);
-    low ^ ((w ^ q.addend) & q.tops)
-}
-
-fn kept(h: bool, x: u64, y: u64) -> u64
-    ensures { λ r. ⌜ r ≡ pick h x y ⌝ }
-{
-    if h { x } else { y }
-}
-
-fn flipped_of(p: Tags, r: Response) -> Response
-    ensures { λ x. ⌜ x ≡ flipped p r ⌝ }
-{
-    if chosen_of(p, r) { r ^ p.target } else { r }
-}
-
-pub fn new_word(q: Changes, write: bool, add: bool, w: u64) -> u64
-    ensures { λ r. ⌜ r ≡ new write add q w ⌝ }
-{
-    if write {
-        if add {
-            written_of(q, w) | summed_of(q, w)
-        } else {
-            written_of(q, w)
-        }
-    } else {
-        if add { summed_of(q, w) } else { w }
-    }
-}
-
-// ---- all words
 
 fn shorter(a: usize, b: usize) -> usize
     ensures { λ r. ⌜ (r ≤ a) × (r ≤ b) × (r ≡ min a b) ⌝ }

@@ -9,13 +9,13 @@ use Rattle.listing.proofs.put_refusal.Statement.{statement}
 use Rattle.listing.proofs.put_refusal.Tie as tie
 
 returns : tie.Need-returns
-returns c = let s = c .before .before .before .before .before .before .before .before .before .before .before .before .before .before .before .args in let k = c .before .before .before .before .before .before .before .before .before .before .before .number-of in refused (s .why) (k .result) _ (s .out .now) (k .ensures) (ap alsoText (c .before .before .before .before .before .before .why .given .1)) (c .before .before .before .before .before .before .before .before .before .before .put-named .ensures) (c .before .before .put-named2 .ensures)
+returns c = let s = c .before .before .before .before .before .before .before .before .before .before .before .before .before .before .before .args in let k = c .before .before .before .before .before .before .before .before .before .before .before .number-of in refused (s .why) (k .result) _ (s .out .now) (k .ensures .0) (ap alsoText (c .before .before .before .before .before .before .why .given .1)) (c .before .before .before .before .before .before .before .before .before .before .put-named .ensures) (c .before .before .put-named2 .ensures)
 
 returns-2 : tie.Need-returns-2
-returns-2 c = let s = c .before .before .before .before .before .before .before .before .before .before .before .before .before .before .before .args in let k = c .before .before .before .before .before .before .before .before .before .before .before .number-of in refused (s .why) (k .result) _ (s .out .now) (k .ensures) (ap alsoText (c .before .before .before .before .before .before .why2 .given .1)) (c .before .before .before .before .before .before .before .before .before .before .put-named .ensures) (c .before .before .put-named3 .ensures)
+returns-2 c = let s = c .before .before .before .before .before .before .before .before .before .before .before .before .before .before .before .args in let k = c .before .before .before .before .before .before .before .before .before .before .before .number-of in refused (s .why) (k .result) _ (s .out .now) (k .ensures .0) (ap alsoText (c .before .before .before .before .before .before .why2 .given .1)) (c .before .before .before .before .before .before .before .before .before .before .put-named .ensures) (c .before .before .put-named3 .ensures)
 
 returns-3 : tie.Need-returns-3
-returns-3 c = let s = c .before .before .before .before .before .before .before .before .args in let k = c .before .before .before .before .number-of in refused (s .why) (k .result) [] (s .out .now) (k .ensures) (no-more (s .why) (λ w e. miss (0 ∷ (1 ∷ (3 ∷ (4 ∷ (5 ∷ (6 ∷ (7 ∷ (9 ∷ (10 ∷ []))))))))) 2 tt (rw e at (c .match .keys3))) (λ w e. miss (0 ∷ (1 ∷ (3 ∷ (4 ∷ (5 ∷ (6 ∷ (7 ∷ (9 ∷ (10 ∷ []))))))))) 8 tt (rw e at (c .match .keys3)))) (c .before .before .before .put-named .ensures) (none-put (c .before .before .before .put-named .result) (c .before .before .before .put-named .last .0))
+returns-3 c = let s = c .before .before .before .before .before .before .before .before .args in let k = c .before .before .before .before .number-of in refused (s .why) (k .result) [] (s .out .now) (k .ensures .0) (no-more (s .why) (λ w e. miss (0 ∷ (1 ∷ (3 ∷ (4 ∷ (5 ∷ (6 ∷ (7 ∷ (9 ∷ (10 ∷ []))))))))) 2 tt (rw e at (c .match .keys3))) (λ w e. miss (0 ∷ (1 ∷ (3 ∷ (4 ∷ (5 ∷ (6 ∷ (7 ∷ (9 ∷ (10 ∷ []))))))))) 8 tt (rw e at (c .match .keys3)))) (c .before .before .before .put-named .ensures) (none-put (c .before .before .before .put-named .result) (c .before .before .before .put-named .last .0))
 
 pub put-refusal-spec : {M : Type 1} → statement M
 put-refusal-spec =

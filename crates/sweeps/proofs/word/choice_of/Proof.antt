@@ -4,8 +4,8 @@ use Rattle.laws.specs.Bits.{digit}
 use Rattle.sweeps.specs.Rules.{choice}
 use Rattle.sweeps.proofs.Walks.{byte-is}
 use borrow.Author.Needs.{needs}
-use Rattle.sweeps.proofs.choice_of.Statement.{statement}
-use Rattle.sweeps.proofs.choice_of.Tie as tie
+use Rattle.sweeps.proofs.word.choice_of.Statement.{statement}
+use Rattle.sweeps.proofs.word.choice_of.Tie as tie
 
 returns : tie.Need-returns
 unfolding choice

@@ -2,8 +2,8 @@
 use mathlib.Core.Path.{refl}
 use Rattle.sweeps.specs.Rules.{summed}
 use borrow.Author.Needs.{needs}
-use Rattle.sweeps.proofs.summed_of.Statement.{statement}
-use Rattle.sweeps.proofs.summed_of.Tie as tie
+use Rattle.sweeps.proofs.word.summed_of.Statement.{statement}
+use Rattle.sweeps.proofs.word.summed_of.Tie as tie
 
 returns : tie.Need-returns
 unfolding summed

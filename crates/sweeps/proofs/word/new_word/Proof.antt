@@ -2,8 +2,8 @@
 use mathlib.Core.Path.{refl}
 use Rattle.sweeps.specs.Rules.{new}
 use borrow.Author.Needs.{needs}
-use Rattle.sweeps.proofs.new_word.Statement.{statement}
-use Rattle.sweeps.proofs.new_word.Tie as tie
+use Rattle.sweeps.proofs.word.new_word.Statement.{statement}
+use Rattle.sweeps.proofs.word.new_word.Tie as tie
 
 returns : tie.Need-returns
 unfolding new

@@ -2,8 +2,8 @@
 use mathlib.Core.Path.{refl}
 use Rattle.sweeps.specs.Rules.{test}
 use borrow.Author.Needs.{needs}
-use Rattle.sweeps.proofs.test_of.Statement.{statement}
-use Rattle.sweeps.proofs.test_of.Tie as tie
+use Rattle.sweeps.proofs.word.test_of.Statement.{statement}
+use Rattle.sweeps.proofs.word.test_of.Tie as tie
 
 returns : tie.Need-returns
 unfolding test

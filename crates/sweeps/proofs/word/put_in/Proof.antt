@@ -1,6 +1,6 @@
 -- The target bits go in where the word is hit, and out where it is not.
-use Rattle.sweeps.proofs.put_in.Statement.{statement}
-use Rattle.sweeps.proofs.put_in.Tie as tie
+use Rattle.sweeps.proofs.word.put_in.Statement.{statement}
+use Rattle.sweeps.proofs.word.put_in.Tie as tie
 
 returns : tie.Need-returns
 returns c = rw (c .if1 .taken)

@@ -2,8 +2,8 @@
 use mathlib.Core.Path.{sym, _∙_}
 use Rattle.sweeps.specs.Rules.{flipped}
 use borrow.Author.Needs.{needs}
-use Rattle.sweeps.proofs.flipped_of.Statement.{statement}
-use Rattle.sweeps.proofs.flipped_of.Tie as tie
+use Rattle.sweeps.proofs.word.flipped_of.Statement.{statement}
+use Rattle.sweeps.proofs.word.flipped_of.Tie as tie
 
 returns : tie.Need-returns
 unfolding flipped

@@ -1,8 +1,8 @@
 -- A word is hit where its flag is 1 and it is chosen.
 use Rattle.sweeps.specs.Rules.{hit}
 use borrow.Author.Needs.{needs}
-use Rattle.sweeps.proofs.hit_of.Statement.{statement}
-use Rattle.sweeps.proofs.hit_of.Tie as tie
+use Rattle.sweeps.proofs.word.hit_of.Statement.{statement}
+use Rattle.sweeps.proofs.word.hit_of.Tie as tie
 
 returns : tie.Need-returns
 unfolding hit

@@ -6,8 +6,8 @@ use Rattle.laws.specs.Bits.{digit}
 use Rattle.sweeps.specs.Rules.{flag}
 use Rattle.sweeps.proofs.Walks.{byte-is}
 use borrow.Author.Needs.{needs}
-use Rattle.sweeps.proofs.flag_of.Statement.{statement}
-use Rattle.sweeps.proofs.flag_of.Tie as tie
+use Rattle.sweeps.proofs.word.flag_of.Statement.{statement}
+use Rattle.sweeps.proofs.word.flag_of.Tie as tie
 
 returns : tie.Need-returns
 unfolding flag
