@@ -4,6 +4,10 @@ use commands::Board;
 use commands::Outcome;
 use lines::Line;
 use lines::Reader;
+ghost use mathlib.Core.Path.{_≡_};
+ghost use Rattle.text.specs.Words.{wordsOf};
+ghost use Rattle.console.specs.Obeying.{desk, obeyed};
+ghost use Rattle.board.specs.Taking as taking;
 
 const COMMENT: u8 = 35;
 
@@ -13,7 +17,9 @@ pub struct Standing {
     pub reader: Reader,
 }
 
-fn is_comment(line: &[u8]) -> bool {
+fn is_comment(line: &[u8]) -> bool
+    ensures { λ r. ⌜ r ≡ taking.isComment (now (line .entry)) ⌝ }
+{
     if 0 < line.len() {
         line[0] == COMMENT
     } else {
@@ -34,7 +40,12 @@ fn answer(
     responses: &mut [u8],
     bytes: &mut [u8],
     out: &mut [u8],
-) -> Board {
+) -> Board
+    ensures { λ r. ⌜ r ≡ obeyed (desk board (now (words .entry)) (now (responses .entry)) (now (bytes .entry))) (wordsOf (now (line .entry))) .turn .board ⌝ }
+    ensures { λ _. ⌜ now (words .exit) ≡ obeyed (desk board (now (words .entry)) (now (responses .entry)) (now (bytes .entry))) (wordsOf (now (line .entry))) .words ⌝ }
+    ensures { λ _. ⌜ now (responses .exit) ≡ obeyed (desk board (now (words .entry)) (now (responses .entry)) (now (bytes .entry))) (wordsOf (now (line .entry))) .responses ⌝ }
+    ensures { λ _. ⌜ now (bytes .exit) ≡ obeyed (desk board (now (words .entry)) (now (responses .entry)) (now (bytes .entry))) (wordsOf (now (line .entry))) .bytes ⌝ }
+{
     let turn = console::obey(board, line, words, responses, bytes);
     let outcome = turn.outcome;
     print(outcome, bytes, out);
@@ -50,20 +61,40 @@ fn take(
     responses: &mut [u8],
     bytes: &mut [u8],
     out: &mut [u8],
-) -> Board {
-    let n = found.kept;
-    if line.len() < n {
+) -> Board
+    ensures { λ r. ⌜ r ≡ taking.taken (desk board (now (words .entry)) (now (responses .entry)) (now (bytes .entry))) found (now (line .entry)) .turn .board ⌝ }
+    ensures { λ _. ⌜ now (words .exit) ≡ taking.taken (desk board (now (words .entry)) (now (responses .entry)) (now (bytes .entry))) found (now (line .entry)) .words ⌝ }
+    ensures { λ _. ⌜ now (responses .exit) ≡ taking.taken (desk board (now (words .entry)) (now (responses .entry)) (now (bytes .entry))) found (now (line .entry)) .responses ⌝ }
+    ensures { λ _. ⌜ now (bytes .exit) ≡ taking.taken (desk board (now (words .entry)) (now (responses .entry)) (now (bytes .entry))) found (now (line .entry)) .bytes ⌝ }
+{
+    if !found.has_word {
         return board;
     }
-    let kept = &line[0..n];
-    if !found.has_word | is_comment(kept) {
+    if is_comment(line) {
         return board;
     }
     if found.longer {
         print(Outcome::BadLine, bytes, out);
         return board;
     }
-    answer(board, kept, words, responses, bytes, out)
+    answer(board, line, words, responses, bytes, out)
+}
+
+// The line's bytes that are kept, from the start of `line`.
+fn take_kept(
+    board: Board,
+    found: Line,
+    line: &[u8],
+    words: &mut [u64],
+    responses: &mut [u8],
+    bytes: &mut [u8],
+    out: &mut [u8],
+) -> Board {
+    let n = found.kept;
+    if line.len() < n {
+        return board;
+    }
+    take(board, found, &line[0..n], words, responses, bytes, out)
 }
 
 fn next(
@@ -81,7 +112,7 @@ fn next(
     let found = got.line;
     let further = got.reader;
     Standing {
-        board: take(board, found, line, words, responses, bytes, out),
+        board: take_kept(board, found, line, words, responses, bytes, out),
         reader: further,
     }
 }

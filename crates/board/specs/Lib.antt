@@ -1,0 +1,2 @@
+-- which lines are answered
+pub mod Taking
