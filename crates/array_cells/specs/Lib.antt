@@ -1,0 +1,1 @@
+-- nothing of its own: what the machine does is in `array`

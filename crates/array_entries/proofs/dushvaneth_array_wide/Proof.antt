@@ -1,0 +1,33 @@
+use Rattle.array.specs.Operations.{array}
+use Rattle.array_entries.proofs.Codes.{unheld, operated}
+use borrow.Author.Needs.{needs}
+use Rattle.array_entries.proofs.dushvaneth_array_wide.Statement.{statement}
+use Rattle.array_entries.proofs.dushvaneth_array_wide.Tie as tie
+
+returns : tie.Need-returns
+returns c =
+    let a = c .before .before .before .before .before .args in
+    unheld (array (a .width) (a .ones .now) (a .xs .now) (a .selectors .now)) (a .registers .now) (a .code) (search needs)
+
+returns-2 : tie.Need-returns-2
+returns-2 c =
+    let t = c .before .before in let k = t .before .before .before .before .before .before .before .before in let e = k .before in let h = e .before .before .before .before in let a = h .before .before .before .before .before .before .before .args in
+    operated (array (a .width) (a .ones .now) (a .xs .now) (a .selectors .now)) (a .registers .now) (a .code) (search needs)
+    (h .registers-of .result) (h .registers-of .ensures) (e .operation-of .result) (e .operation-of .ensures)
+    (k .operate .result) (k .operate .ensures .0) (t .settle .result) _ _ _ _ (t .settle .ensures .0)
+    (k .operate .ensures .1 .0) (k .operate .ensures .1 .1 .0) (k .operate .ensures .1 .1 .1) (t .settle .ensures .1)
+
+pub dushvaneth-array-wide-spec : {M : Type 1} → statement M
+dushvaneth-array-wide-spec =
+    tie.close
+    (tie.spec
+    returns
+    (λ c κs. search needs)
+    (λ c κs. search needs)
+    (λ c κs. search needs)
+    (λ c κs. search needs)
+    (λ c. search needs)
+    (λ c. search needs)
+    (λ c. search needs)
+    (λ c. search needs)
+    returns-2)

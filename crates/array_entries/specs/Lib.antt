@@ -1,0 +1,2 @@
+-- what the entry points' contracts cite
+pub mod Numbers

@@ -1,0 +1,2 @@
+-- an operation as a line writes it
+pub mod Choices

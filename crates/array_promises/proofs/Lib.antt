@@ -1,0 +1,7 @@
+-- what is promised of the array of three-state cells: a reader opens these files
+pub mod Again
+pub mod Demand1
+pub mod Demand2
+pub mod Exact
+pub mod Figures
+pub mod Settled

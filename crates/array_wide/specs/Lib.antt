@@ -1,0 +1,2 @@
+-- what the sweeps do to each word
+pub mod Rules
