@@ -1,2 +1,3 @@
 -- laws that the functions' proofs cite
 pub mod Takes
+pub mod Apart

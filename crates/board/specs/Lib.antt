@@ -1,2 +1,3 @@
--- which lines are answered
+-- which lines are answered, and by which side
 pub mod Taking
+pub mod Sides

@@ -18,7 +18,7 @@ ghost use Rattle.text.specs.Words.{wordsOf};
 ghost use Rattle.text.specs.Rows.{fits, values};
 ghost use Rattle.setting.specs.Settings as settings;
 
-fn clear_words(words: &mut [u64])
+pub fn clear_words(words: &mut [u64])
     ensures { λ _. ⌜ now (words .exit) ≡ replicate (length (now (words .entry))) 0 ⌝ }
 {
     let mut i: usize = 0;
@@ -28,7 +28,7 @@ fn clear_words(words: &mut [u64])
     }
 }
 
-fn clear_responses(responses: &mut [u8])
+pub fn clear_responses(responses: &mut [u8])
     ensures { λ _. ⌜ now (responses .exit) ≡ replicate (length (now (responses .entry))) 0 ⌝ }
 {
     let mut i: usize = 0;

@@ -1,0 +1,32 @@
+use native.Mathlib.Omega.{arith}
+use borrow.Author.Needs.{needs}
+use lib.ListN.{set}
+use Rattle.text.specs.Rows.{numberAt, byteAt}
+use Rattle.setting.proofs.Lines.{unread, past, hits}
+use Rattle.array_console.specs.declared.Outcome.the-variants as outcome
+use Rattle.array_console.proofs.write_selectors.Statement.{statement}
+use Rattle.array_console.proofs.write_selectors.Tie as tie
+
+returns : tie.Need-returns
+returns c = let e = c .before .read .ensures .0 in let h = c .if1 .taken in (unread e _ _ _ h, unread e _ _ _ h)
+
+returns-2 : tie.Need-returns-2
+returns-2 c = let a = c .before .before .before .before .before .before .before .args in let r = c .before .before .before .read in let e = r .ensures .0 in let v = r .ensures .1 (omega arith) in let s = a .selectors .now in let h = c .before .before .if1 .left in (past e v h s _ _ (omega arith), past e v h s _ _ (omega arith))
+
+returns-3 : tie.Need-returns-3
+returns-3 c = let a = c .before .before .before .before .before .before .before .before .before .args in let r = c .before .before .before .before .before .read in let e = r .ensures .0 in let v = r .ensures .1 (omega arith) in let s = a .selectors .now in let h = c .before .before .before .before .if1 .left in (hits e v h s (λ n. outcome.Fine) _ (omega arith), rw (c .byte .ensures) (hits e v h s (λ n. set s (numberAt n 0) (byteAt n 1)) _ (omega arith)))
+
+pub write-selectors-spec : {M : Type 1} → statement M
+write-selectors-spec =
+    tie.close
+    (tie.spec
+    (λ c. search needs)
+    (λ c κs. search needs)
+    returns
+    (λ c. search needs)
+    returns-2
+    (λ c. search needs)
+    (λ c κs. search needs)
+    (λ c. search needs)
+    (λ c. search needs)
+    returns-3)
