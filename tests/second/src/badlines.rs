@@ -5,7 +5,7 @@ use crate::writer::Writer;
 use processor::line::LONGEST;
 
 /// One good line of each command.
-const GOOD: [&str; 26] = [
+const GOOD: [&str; 34] = [
     "machine 8 3",
     "lend 3",
     "word 0 35",
@@ -32,6 +32,14 @@ const GOOD: [&str; 26] = [
     "fit 1 1 0100000008010000003500000000000000010000000100000000",
     "list",
     "panel",
+    "cells3 8 3",
+    "cell3 0 35 40",
+    "select3 0 fF",
+    "load3 r1 35",
+    "search3 r1 m agree p replace",
+    "read3 p true r2 ones",
+    "write3 normal r2 zeros none complement",
+    "list3",
 ];
 
 /// Words that are no number, or a number at or beyond some range.
@@ -66,7 +74,7 @@ const ODD: [&str; 26] = [
 
 /// The ranges of the language: a line's beginning, a word at the edge of its
 /// range, one beyond it, and the line's end.
-const RANGES: [[&str; 4]; 22] = [
+const RANGES: [[&str; 4]; 30] = [
     ["machine ", "255", "256", " 3"],
     ["machine 8 ", "2048", "2049", ""],
     ["lend ", "2048", "2049", ""],
@@ -99,6 +107,14 @@ const RANGES: [[&str; 4]; 22] = [
     ["fit 2048 ", "2048", "2049", ""],
     ["resume ", "0A", "0A0", ""],
     ["fit 1 1 ", "01", "1", ""],
+    ["cells3 ", "255", "256", " 3"],
+    ["cells3 8 ", "2048", "2049", ""],
+    ["cell3 0 ", "FFFFFFFFFFFFFFFF", "0FFFFFFFFFFFFFFFF", " 0"],
+    ["cell3 0 0 ", "0000000000000001", "00000000000000001", ""],
+    ["select3 0 ", "FF", "100", ""],
+    ["select3 0 ", "00000000000000fF", "000000000000000fF", ""],
+    ["load3 r2 ", "ffffffffffffffff", "0ffffffffffffffff", ""],
+    ["load3 m ", "00000000000000FF", "000000000000000FF", ""],
 ];
 
 /// Words at and beyond the edges of a job's fields.

@@ -1,6 +1,9 @@
-//! The console: one machine, and the language it is driven by.
+//! The console: one machine and one array of three-state cells, and the
+//! language they are driven by.
 
+use crate::array::Array;
 use crate::cells::CELLS;
+use crate::choices::{Read, Search, Write};
 use crate::image;
 use crate::jobs::{self, Job, Span};
 use crate::line::Line;
@@ -11,12 +14,13 @@ use crate::resolve;
 use crate::round::{self, Verdict};
 use crate::wide::WIDE;
 
-/// "A width, a buffer of words, a buffer of responses, a panel and the held
-/// job, if any."
+/// "One machine, with its panel and the held job, if any, and beside it one
+/// array of three-state cells"; no command of the one changes the other.
 pub struct Console {
     pub machine: Machine,
     pub panel: Panel,
     pub job: Option<Job>,
+    pub array: Array,
 }
 
 /// What a well-formed line prints: its answer or a refusal.
@@ -28,12 +32,13 @@ const MOST_ENTRIES: u64 = 2048;
 const MOST_ROOM: u64 = 20_000;
 
 impl Console {
-    /// "It starts as after `machine 8 3`."
+    /// "It starts as after `machine 8 3` and `cells3 8 3`."
     pub fn new() -> Console {
         Console {
             machine: Machine::blank(8, 3),
             panel: Panel::default(),
             job: None,
+            array: Array::blank(8, 3),
         }
     }
 
@@ -80,6 +85,14 @@ impl Console {
             [b"fit", words, responses, digits @ ..] => self.fit(words, responses, digits),
             [b"list"] => Some(self.list()),
             [b"panel"] => Some(Ok(self.panel_text())),
+            [b"cells3", width, n] => self.make_array(width, n),
+            [b"cell3", index, ones, xs] => self.write_cells(index, ones, xs),
+            [b"select3", index, value] => self.write_selectors(index, value),
+            [b"load3", register, value] => self.load_array(register, value),
+            [b"search3", choices @ ..] => self.search_array(choices),
+            [b"read3", choices @ ..] => self.read_array(choices),
+            [b"write3", choices @ ..] => self.write_array(choices),
+            [b"list3"] => Some(Ok(self.array_text())),
             _ => None,
         }
     }
@@ -247,6 +260,72 @@ impl Console {
         let registers = registers_text(&self.panel);
         format!("{registers} address {}", self.panel.address)
     }
+
+    /// "All cells, selectors and registers 0."
+    fn make_array(&mut self, width: &[u8], n: &[u8]) -> Option<Outcome> {
+        let width = small(width)?;
+        let n = decimal(n, MOST_ENTRIES)?;
+        self.array = Array::blank(width, n as usize);
+        ok()
+    }
+
+    fn write_cells(&mut self, index: &[u8], ones: &[u8], xs: &[u8]) -> Option<Outcome> {
+        let index = index_of(index)?;
+        let (ones, xs) = (hex(ones, u64::MAX)?, hex(xs, u64::MAX)?);
+        *self.array.ones.get_mut(index)? = ones;
+        *self.array.xs.get_mut(index)? = xs;
+        ok()
+    }
+
+    fn write_selectors(&mut self, index: &[u8], value: &[u8]) -> Option<Outcome> {
+        let value = hex_byte(value)?;
+        *self.array.selectors.get_mut(index_of(index)?)? = value;
+        ok()
+    }
+
+    fn load_array(&mut self, register: &[u8], value: &[u8]) -> Option<Outcome> {
+        let value = hex(value, u64::MAX)?;
+        match register {
+            b"r1" => self.array.r1 = value,
+            b"r2" => self.array.r2 = value,
+            b"m" => self.array.m = value,
+            _ => return None,
+        }
+        ok()
+    }
+
+    fn search_array(&mut self, choices: &[&[u8]]) -> Option<Outcome> {
+        let search = Search::named(choices)?;
+        Some(self.array.search(search).map(count_text))
+    }
+
+    fn read_array(&mut self, choices: &[&[u8]]) -> Option<Outcome> {
+        let read = Read::named(choices)?;
+        Some(self.array.read(read).map(count_text))
+    }
+
+    fn write_array(&mut self, choices: &[&[u8]]) -> Option<Outcome> {
+        let write = Write::named(choices)?;
+        Some(self.array.write(write).map(count_text))
+    }
+
+    /// "The array as the host holds it, unchecked."
+    fn array_text(&self) -> String {
+        let array = &self.array;
+        let mut text = format!(
+            "cells {} width {} r1 {:016X} r2 {:016X} m {:016X}",
+            array.ones.len(),
+            array.width,
+            array.r1,
+            array.r2,
+            array.m
+        );
+        for (index, selectors) in array.selectors.iter().enumerate() {
+            let (ones, xs) = (array.ones[index], array.xs[index]);
+            text.push_str(&format!("\n{index} {ones:016X} {xs:016X} {selectors:02X}"));
+        }
+        text
+    }
 }
 
 impl Default for Console {
@@ -274,6 +353,10 @@ fn word_text(found: Option<usize>) -> String {
         Some(index) => format!("word {index}"),
         None => "none".to_string(),
     }
+}
+
+fn count_text(count: usize) -> String {
+    format!("count {count}")
 }
 
 fn registers_text(panel: &Panel) -> String {

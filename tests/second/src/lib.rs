@@ -2,7 +2,9 @@
 //! specification and from the page on the console's language. It exists to be
 //! held against the board: clarity comes before speed.
 
+pub mod array;
 pub mod cells;
+pub mod choices;
 pub mod console;
 pub mod image;
 pub mod jobs;

@@ -14,7 +14,7 @@ impl Writer {
     /// One scene, after what may be out of order has been set right.
     pub fn scene(&mut self) {
         self.heal();
-        match self.rng.below(100) {
+        match self.rng.below(122) {
             0..=6 => self.new_machine(),
             7..=10 => self.fill(),
             11..=25 => self.some_pulses(),
@@ -33,7 +33,8 @@ impl Writer {
             85..=90 => self.bad_line(),
             91..=95 => self.edge_of_a_range(),
             96..=97 => self.edge_of_a_line(),
-            _ => self.quiet_line(),
+            98..=99 => self.quiet_line(),
+            _ => self.array_scene(),
         }
     }
 

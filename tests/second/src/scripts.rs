@@ -1,6 +1,7 @@
 //! The scripts that both programs are given: random ones, and those that read
 //! every damaged form of one image. The same number gives the same script.
 
+mod arraylines;
 mod badlines;
 mod calls;
 mod changes;

@@ -2,10 +2,14 @@
 //! unseen. The counts are of what happened on the second program.
 
 use crate::tally::facts::Facts;
+use processor::array::Array;
 use processor::console::Console;
 use processor::line::{read_line, Line, LONGEST};
+use processor::machine::Machine;
 use std::collections::BTreeMap;
 
+mod arrayfacts;
+mod arrayneeds;
 mod facts;
 mod needed;
 mod reasons;
@@ -22,11 +26,23 @@ struct Round {
     stops: u64,
 }
 
+/// What went before on the array and beside it.
+#[derive(Default)]
+struct Course {
+    /// The last operation taken since the array was made.
+    operation: Option<String>,
+    /// Whether a machine was made or read since the array was listed.
+    machine_made: bool,
+    /// Whether an array was made since the machine was stored.
+    array_made: bool,
+}
+
 #[derive(Default)]
 pub struct Tally {
     pub counts: BTreeMap<String, u64>,
     pub commands: u64,
     round: Option<Round>,
+    course: Course,
 }
 
 impl Tally {
@@ -35,6 +51,7 @@ impl Tally {
         let mut console = Console::new();
         let mut input = script;
         self.round = None;
+        self.course = Course::default();
         while let Ok(Some(line)) = read_line(&mut input) {
             self.line(&mut console, &line);
         }
@@ -69,6 +86,8 @@ impl Tally {
         }
         self.verdict(&words, &answer);
         self.follow_round(&words, &answer);
+        self.follow_operations(&words, &answer);
+        self.follow_both(console, &words, &answer);
     }
 
     /// The command's name and how it went.
@@ -107,6 +126,46 @@ impl Tally {
             _ => {}
         }
         self.round = Some(round).filter(|round| !round.x.is_empty());
+    }
+
+    /// Operations of the array one after the other.
+    fn follow_operations(&mut self, words: &[&[u8]], answer: &str) {
+        match words {
+            [b"cells3", ..] if answer == "ok" => self.course.operation = None,
+            [command @ (b"search3" | b"read3" | b"write3"), ..] if answer.starts_with("count") => {
+                let name = String::from_utf8_lossy(command).into_owned();
+                if let Some(last) = self.course.operation.replace(name.clone()) {
+                    self.count(format!("{name}: after {last}"));
+                }
+            }
+            _ => {}
+        }
+    }
+
+    /// Commands of the array and of the machine between each other: "no command
+    /// of the one changes the other".
+    fn follow_both(&mut self, console: &Console, words: &[&[u8]], answer: &str) {
+        let (machine, array) = (&console.machine, &console.array);
+        let course = &mut self.course;
+        match words {
+            [b"machine" | b"resume" | b"fit", ..] if answer == "ok" => {
+                course.machine_made = true;
+            }
+            [b"cells3", ..] if answer == "ok" => course.array_made = true,
+            [b"list3"] => {
+                let blank = Array::blank(array.width, array.ones.len());
+                if std::mem::take(&mut course.machine_made) && *array != blank {
+                    self.count("list3: after a machine was made or read");
+                }
+            }
+            [b"store"] => {
+                let blank = Machine::blank(machine.width, machine.words.len());
+                if std::mem::take(&mut course.array_made) && *machine != blank {
+                    self.count("store: after an array was made");
+                }
+            }
+            _ => {}
+        }
     }
 
     fn end_round(&mut self, round: &Round) {

@@ -36,6 +36,45 @@ pub fn any_size(rng: &mut Rng) -> usize {
     }
 }
 
+/// A number of words for an array of three-state cells: few, since its host
+/// writes them one by one, and now and then at an edge.
+pub fn array_size(rng: &mut Rng) -> usize {
+    match rng.below(40) {
+        0 => 0,
+        1 | 2 => rng.pick(&[1023, 1024, 1024]),
+        3 => rng.pick(&[1025, 2048]),
+        4..=9 => rng.between(9, 40) as usize,
+        _ => rng.between(1, 8) as usize,
+    }
+}
+
+/// The plane of a word's X cells: none of them, all, few or many.
+pub fn xs(rng: &mut Rng, width: u8) -> u64 {
+    let chosen = match rng.below(6) {
+        0 | 1 => 0,
+        2 => u64::MAX,
+        3 => rng.next() & rng.next() & rng.next(),
+        4 => rng.next() | rng.next(),
+        _ => rng.next(),
+    };
+    chosen & ones(u32::from(width.min(64)))
+}
+
+/// A mask register: of one bit, of few, of many or of all.
+pub fn mask(rng: &mut Rng, width: u8) -> u64 {
+    let top = u64::from(width.clamp(1, 64));
+    let chosen = match rng.below(8) {
+        0 => 0,
+        1 => u64::MAX,
+        2 | 3 => one_at(rng.below(top) as u32),
+        4 => rng.next() & rng.next() & rng.next(),
+        5 => 0xFF << rng.below(top),
+        6 => rng.next() | rng.next(),
+        _ => rng.next(),
+    };
+    chosen & ones(u32::from(width.min(64)))
+}
+
 /// A number within a width: one of the known words, one bit away from one, or
 /// something new.
 pub fn number(rng: &mut Rng, width: u8, known: &[u64]) -> u64 {

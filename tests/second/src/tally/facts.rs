@@ -1,5 +1,6 @@
 //! What stands before one command and what comes of it.
 
+use super::arrayfacts::COMMANDS;
 use super::reasons::{pulse_numbers, record_reasons, used_reasons};
 use processor::console::Console;
 use processor::image;
@@ -27,8 +28,14 @@ impl Facts {
             [b"done" | b"faulty", x, f, word] => self.before_answer(console, x, f, word),
             [b"room", _] => self.before_held(console),
             [b"fit", room, other, digits] => self.before_fit(room, other, digits),
+            [b"search3" | b"read3" | b"write3", ..] => self.before_operation(&console.array, words),
             _ => {}
         }
+    }
+
+    /// A fact that counts only if the command is accepted.
+    pub fn hold_back(&mut self, fact: String) {
+        self.held_back.push(fact);
     }
 
     pub fn after(&mut self, console: &Console, words: &[&[u8]], answer: &str) {
@@ -48,6 +55,11 @@ impl Facts {
             [b"step"] if accepted => self.after_step(answer),
             [b"run" | b"total"] if accepted => self.after_run(&name),
             [b"resume", ..] | [b"fit", ..] => self.after_read(console, &name, words, answer),
+            [b"cells3", ..] if accepted => self.array_size(&name, &console.array),
+            [b"list3"] => self.array_size(&name, &console.array),
+            [command, ..] if answer == "bad line" && COMMANDS.contains(command) => {
+                self.bad_array_line(&console.array, words);
+            }
             _ => {}
         }
     }
@@ -452,7 +464,7 @@ fn selected_of(machine: &Machine, key: u8, care: u8) -> usize {
         .count()
 }
 
-fn share_of(count: usize, all: usize) -> &'static str {
+pub fn share_of(count: usize, all: usize) -> &'static str {
     match count {
         0 => "none",
         _ if count == all => "all",

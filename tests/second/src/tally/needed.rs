@@ -4,11 +4,11 @@
 use processor::panel::LINE_NAMES;
 
 /// Least counts: of what is sought out, and of what comes now and then.
-const OFTEN: u64 = 100;
-const SOMETIMES: u64 = 5;
+pub const OFTEN: u64 = 100;
+pub const SOMETIMES: u64 = 5;
 
 /// The numbers that each command can be turned down for.
-const REFUSALS: [(&[&str], &[u8]); 8] = [
+const REFUSALS: [(&[&str], &[u8]); 9] = [
     (&["pulse", "cells"], &[1, 2, 3, 4, 5, 6, 7]),
     (&["resolve", "tree"], &[1, 2, 3]),
     (&["start", "step", "run", "total", "show"], &[1, 2, 3, 8]),
@@ -17,11 +17,13 @@ const REFUSALS: [(&[&str], &[u8]); 8] = [
     (&["room"], &[1, 2, 3, 8, 10]),
     (&["resume"], &[9]),
     (&["fit"], &[9, 10]),
+    (&["search3", "read3", "write3"], &[1, 2, 3, 4, 12]),
 ];
 
 /// Commands that are never turned down.
-const PLAIN: [&str; 8] = [
-    "machine", "lend", "word", "response", "load", "job", "drop", "panel",
+const PLAIN: [&str; 13] = [
+    "machine", "lend", "word", "response", "load", "job", "drop", "panel", "cells3", "cell3",
+    "select3", "load3", "list3",
 ];
 
 /// Other things by name.
@@ -148,10 +150,10 @@ const SECTIONS: [&str; 16] = [
 ];
 
 /// Names in the making.
-struct Needs(Vec<(String, u64)>);
+pub struct Needs(Vec<(String, u64)>);
 
 impl Needs {
-    fn add(&mut self, least: u64, name: impl Into<String>) {
+    pub fn add(&mut self, least: u64, name: impl Into<String>) {
         self.0.push((name.into(), least));
     }
 
@@ -272,6 +274,7 @@ pub fn needed() -> Vec<(String, u64)> {
     needs.meetings();
     needs.jobs();
     needs.images();
+    needs.array();
     for name in NAMED {
         needs.add(OFTEN, name);
     }

@@ -1,7 +1,8 @@
-//! All the numbers that a pulse would be turned down for, and all the reasons
-//! why number 8 would be given for a job: each by itself, so that it is seen
-//! which were met alone and which together.
+//! All the numbers that a pulse or an operation of the array would be turned
+//! down for, and all the reasons why number 8 would be given for a job: each by
+//! itself, so that it is seen which were met alone and which together.
 
+use processor::array::Array;
 use processor::jobs::{Job, Span, GREATEST, PRODUCT, SCALED, SMALLEST};
 use processor::machine::{is_stray, Machine, MOST_BITS, MOST_WORDS};
 use processor::panel::{Lines, Panel};
@@ -27,6 +28,23 @@ pub fn pulse_numbers(machine: &Machine, panel: &Panel, lines: Lines) -> Vec<u8> 
     (1..=7)
         .filter(|number| held[usize::from(*number) - 1])
         .collect()
+}
+
+/// The array's numbers in the order in which they are judged.
+pub fn array_numbers(array: &Array) -> Vec<u8> {
+    let n = array.ones.len();
+    let width = array.width;
+    let planes = || array.ones.iter().zip(&array.xs);
+    let registers = [array.r1, array.r2, array.m];
+    let held = [
+        (1, n == 0 || n > MOST_WORDS),
+        (2, width == 0 || width > MOST_BITS),
+        (3, planes().any(|(one, x)| is_stray(one | x, width))),
+        (12, planes().any(|(one, x)| one & x != 0)),
+        (4, registers.iter().any(|r| is_stray(*r, width))),
+    ];
+    let numbers = held.iter().filter(|(_, so)| *so);
+    numbers.map(|(number, _)| *number).collect()
 }
 
 /// What 8 has against the used fields of a job.
