@@ -1,5 +1,4 @@
 -- What an operation answers and leaves, where it is turned down and where it isn't.
--- Assumes nothing.
 use Prim.Native.Nat.{ℕ}
 use mathlib.Core.Path.{_≡_, refl, ap, ap₂, _∙_}
 use mathlib.Core.List.{List}

@@ -1,5 +1,4 @@
 -- Chains of checks, what a call that passes them shows, and what then holds of each word.
--- Assumes nothing.
 use Prim.Native.Nat.{ℕ, suc, _+_, _^_, _≤_, _<_}
 use mathlib.Core.Path.{_≡_, refl, ap₂}
 use mathlib.Core.Bool.{Bool, true, false, _&&_, _||_}

@@ -1,5 +1,4 @@
 -- The checks of the words of three buffers, walked by a place k: the lowest that passes a test, and cells as masks of both planes.
--- Assumes nothing.
 use Prim.Native.Nat.{ℕ, zero, suc, _+_, _^_, _≤_, _<_, min}
 use mathlib.Core.Path.{_≡_, refl, sym, ap, ap₂, _∙_}
 use mathlib.Core.Bool.{Bool, true, false, _&&_, _||_, and-assoc, and-true}

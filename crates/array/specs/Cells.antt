@@ -1,5 +1,4 @@
 -- Source document 001, 'Associative processing array': one three-state cell, and its truth tables.
--- Assumes nothing.
 use Prim.Native.Nat.{ℕ, zero, suc}
 use mathlib.Core.Bool.{Bool, true, false, _||_}
 use lib.Dec.{eqb}

@@ -1,6 +1,5 @@
 -- Source document 001, 'Associative processing array': search, read and write, each word and register after one of them. What is quoted of one
 -- operation as a whole is from docs/landings/a.md.
--- Assumes nothing.
 use Prim.Native.Nat.{ℕ, max}
 use mathlib.Core.Bool.{Bool, not}
 use mathlib.Core.List.{List, [], _∷_}

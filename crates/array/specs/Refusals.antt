@@ -1,6 +1,5 @@
 -- Document 02, request a: "Refusals: 1 to 4 as before, 12 for a cell coded as neither 0, 1 nor X, after 3"; what an operation answers and leaves.
 -- The conditions are quoted from docs/landings/a.md.
--- Assumes nothing.
 use Prim.Native.Nat.{ℕ}
 use mathlib.Core.Bool.{Bool, true, false, not, _||_}
 use mathlib.Core.List.{List}

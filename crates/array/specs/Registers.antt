@@ -1,5 +1,4 @@
 -- The bit control unit: "two data registers (R1, R2) defining a data source or sink for an array operation; and one mask register (M)".
--- Assumes nothing.
 use Prim.Native.Nat.{ℕ, _-_, _^_}
 use Rattle.array.specs.declared.Registers.{Registers}
 use Rattle.array.specs.declared.Source.{Source}

@@ -1,6 +1,5 @@
 -- The word control unit: "two selector sets, P and S, a bit for each word .. bit 0 P, bit 1 S, its other bits neither read nor changed"
 -- (docs/landings/a.md). The other quotations are source document 001's and document 02's.
--- Assumes nothing.
 use Prim.Native.Nat.{ℕ}
 use mathlib.Core.Bool.{Bool, true, false, not, _&&_, _||_}
 use lib.Dec.{eqb}

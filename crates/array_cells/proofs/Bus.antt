@@ -1,5 +1,4 @@
 -- One bit of the read bus, gathered word by word: what is gathered and what is left give the whole.
--- Assumes nothing.
 use Prim.Native.Nat.{ℕ, suc, _+_, _≤_, _<_, max}
 use mathlib.Core.Path.{_≡_, ap, _∙_}
 use mathlib.Core.Bool.{Bool, true, false}

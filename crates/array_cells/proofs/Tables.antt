@@ -1,5 +1,4 @@
 -- The truth tables' rows, as the tests on bits and cells come to them.
--- Assumes nothing.
 use Prim.Native.Nat.{ℕ, zero, suc}
 use mathlib.Core.Path.{_≡_, refl}
 use mathlib.Core.Bool.{false}

@@ -1,5 +1,4 @@
 -- An operation's turn and what stands in the array after it, by what the line asked for and what the call answered.
--- Assumes nothing.
 use Prim.Native.Nat.{ℕ}
 use mathlib.Core.Path.{_≡_, refl}
 use mathlib.Core.List.{List}

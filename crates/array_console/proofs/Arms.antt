@@ -1,5 +1,4 @@
 -- The table of commands asked for the place of a name, on the array's own entries and on the console's buffers.
--- Assumes nothing.
 use Prim.Native.Nat.{ℕ, _+_, _-_, _<_, _≤_}
 use native.Mathlib.Omega.{arith}
 use mathlib.Core.Path.{_≡_, refl}

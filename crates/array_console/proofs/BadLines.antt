@@ -1,6 +1,5 @@
 -- "A line that isn't one of those below .. is a bad line" (docs/BOARD.md), and changes nothing: where a line's outcome is `bad line`, the rack and
 -- its three buffers are what they were.
--- Assumes nothing.
 use Prim.Native.Nat.{ℕ, zero, suc}
 use mathlib.Core.Path.{_≡_, refl}
 use mathlib.Core.Bool.{Bool, true, false, _&&_}
@@ -10,7 +9,7 @@ use lib.Dec.{eqb}
 use lib.ListN.{getD, take, drop, take-append-drop}
 use Rattle.laws.specs.Bits.{pick}
 use Rattle.text.specs.Rows.{fits}
-use Rattle.setting.specs.Settings.{hits}
+use Rattle.console_setting.specs.Settings.{hits}
 use Rattle.array.specs.declared.Answer.{Answer}
 use Rattle.array.specs.declared.Answer.the-variants as answer
 use Rattle.array.specs.Refusals.{answerOf}

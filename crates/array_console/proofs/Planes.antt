@@ -1,5 +1,4 @@
 -- A line whose first number must be below the lengths of both planes: `right` and `row` are what was read, `told` and `meant` what the definitions say.
--- Assumes nothing.
 use Prim.Native.Nat.{ℕ, _<_, _≤_}
 use mathlib.Core.Bool.{Bool, true, false, not, _&&_}
 use mathlib.Core.Path.{_≡_}

@@ -1,6 +1,5 @@
 -- What the commands cells3, cell3, select3, load3, search3, read3, write3 and list3 do, in the words of docs/BOARD.md.
 -- `args` are the words after the command's name.
--- Assumes nothing.
 use Prim.Native.Nat.{ℕ}
 use mathlib.Core.Bool.{Bool, _&&_}
 use mathlib.Core.List.{List, [], _∷_}
@@ -8,7 +7,7 @@ use lib.Dec.{ltb}
 use lib.ListN.{length, set}
 use Rattle.laws.specs.Bits.{pick}
 use Rattle.text.specs.Rows.{fits, values, numberAt, byteAt}
-use Rattle.setting.specs.Settings.{hits}
+use Rattle.console_setting.specs.Settings.{hits}
 use Rattle.array.specs.declared.Registers.{Registers}
 use Rattle.array.specs.declared.Answer.{Answer}
 use Rattle.array.specs.declared.Answer.the-variants as answer

@@ -1,5 +1,4 @@
 -- Which command a line for the array is, and all that stands after it: docs/BOARD.md, the table of the array's lines.
--- Assumes nothing.
 use Prim.Native.Nat.{ℕ}
 use mathlib.Core.Bool.{Bool, false, _&&_}
 use mathlib.Core.List.{List, [], _∷_, _++_}
@@ -7,7 +6,7 @@ use lib.Dec.{leb, eqb}
 use lib.ListN.{length, getD, take, drop}
 use Rattle.laws.specs.Bits.{pick}
 use Rattle.text.specs.Rows.{fits}
-use Rattle.setting.specs.Settings.{cleared}
+use Rattle.console_setting.specs.Settings.{cleared}
 use Rattle.array.specs.Operations.{Array, array}
 use Rattle.array_lines.specs.declared.Asked.{Asked}
 use Rattle.array_lines.specs.Choices.{placeIn, isIn, searchLine, readLine, writeLine}

@@ -11,7 +11,7 @@ use text::words;
 ghost use mathlib.Core.Path.{_≡_};
 ghost use Rattle.text.specs.Words.{wordsOf};
 ghost use Rattle.text.specs.Rows.{fits};
-ghost use Rattle.setting.specs.Settings.{cleared};
+ghost use Rattle.console_setting.specs.Settings.{cleared};
 ghost use Rattle.array.specs.Operations.{array};
 ghost use Rattle.array_console.specs.Commands as commands;
 ghost use Rattle.array_console.specs.Obeying as obeying;
@@ -80,9 +80,9 @@ fn make(rack: Rack, rest: &[u8], ones: &mut [u64], xs: &mut [u64], selectors: &m
     if !row.right {
         return ended(rack, Outcome::BadLine);
     }
-    setting::clear_words(ones);
-    setting::clear_words(xs);
-    setting::clear_responses(selectors);
+    console_setting::clear_words(ones);
+    console_setting::clear_words(xs);
+    console_setting::clear_responses(selectors);
     let width = numbers::byte(row.values[0]);
     ended(fresh(width as u32, row.values[1] as usize), Outcome::Fine)
 }

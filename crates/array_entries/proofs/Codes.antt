@@ -1,5 +1,4 @@
 -- An operation by the lowest digit of its code, and an answer stored into a buffer of three.
--- Assumes nothing.
 use Prim.Native.Nat.{ℕ}
 use mathlib.Core.Path.{_≡_, refl}
 use mathlib.Core.List.{List, [], _∷_}

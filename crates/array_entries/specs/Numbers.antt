@@ -1,5 +1,4 @@
 -- An operation, the registers and an answer as plain numbers, for callers in other languages.
--- Assumes nothing.
 use Prim.Native.Nat.{ℕ, _*_, _/_, _%_, _^_}
 use mathlib.Core.Bool.{Bool}
 use mathlib.Core.List.{List, [], _∷_}

@@ -1,5 +1,4 @@
 -- The next word of a line as a name, and a row of choices, each by the word after the last one's.
--- Assumes nothing.
 use Prim.Native.Nat.{ℕ, suc, _+_, _-_, _<_, _≤_}
 use Prim.Native.String.{String}
 use mathlib.Core.Bool.{Bool, true, false, _&&_, and-assoc}

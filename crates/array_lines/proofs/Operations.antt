@@ -1,5 +1,4 @@
 -- The three operations from the choices that their lines make.
--- Assumes nothing.
 use Prim.Native.Nat.{ℕ}
 use Prim.Native.String.{String}
 use mathlib.Core.Bool.{Bool, true, false, _&&_}

@@ -1,5 +1,4 @@
 -- An operation on the array as a line of docs/BOARD.md writes it: `args` are the words behind the command's name, one for each choice.
--- Assumes nothing.
 use Prim.Native.Nat.{ℕ}
 use Prim.Native.String.{String}
 use mathlib.Core.Bool.{Bool, true, false, _&&_}

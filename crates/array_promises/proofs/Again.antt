@@ -1,5 +1,4 @@
 -- What passes the checks passes them again after any operation: each word, the registers, the array.
--- Assumes nothing.
 use Prim.Native.Nat.{ℕ, zero, suc, _^_, _<_}
 use mathlib.Core.Path.{_≡_, refl, ap, ap₂, _∙_}
 use mathlib.Core.Bool.{Bool, true, false, not}

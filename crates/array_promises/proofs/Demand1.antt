@@ -1,7 +1,6 @@
 -- Document 02, request a: "Demands 1 and 2 hold for it too", here demand 1: "Every call takes any input. What is wrong gets its refusal number ..,
 -- always the same one, and nothing lent changes"; and "Refusals: 1 to 4 as before, 12 for a cell coded as neither 0, 1 nor X, after 3."
 -- That operations take any input is said by their contracts, which have no `requires`.
--- Assumes nothing.
 use Prim.Native.Nat.{ℕ}
 use mathlib.Core.Path.{_≡_, refl, sym, ap, _∙_}
 use mathlib.Core.Bool.{Bool, true, false}

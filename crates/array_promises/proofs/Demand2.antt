@@ -1,6 +1,5 @@
 -- Document 02, request a: "Demands 1 and 2 hold for it too", here demand 2: every operation does to every word what 02 lays down, "a search replaces,
 -- ANDs or ORs" a selector set "with the words that agree, or with those that don't", and the cell-by-cell machine and the word-wide machine agree.
--- Assumes nothing.
 use Prim.Native.Nat.{ℕ, _<_}
 use mathlib.Core.Path.{_≡_, refl, sym, ap, _∙_}
 use mathlib.Core.Bool.{Bool, true, false}

@@ -1,7 +1,6 @@
 -- Document 02, request a: "Where a word has no X, its search is the exact search under the same mask, shown once over all widths."
 -- The exact search is the base machine's own: COMP holds the data, SC1 is 0 and SC2 is the mask, so that each bit is exact under a one of the
 -- mask and don't care elsewhere; SDR is any.
--- Assumes nothing.
 use Prim.Native.Nat.{ℕ, zero, suc, _+_, _<_}
 use mathlib.Core.Path.{_≡_, refl, sym, ap, ap₂, _∙_}
 use mathlib.Core.Bool.{Bool, true, false, not, _&&_, _||_, and-true, and-assoc}

@@ -1,6 +1,5 @@
 -- Source document 001, 'Associative processing array': its truth tables; and docs/BOARD.md, 'Cells of three states': its examples, as rows of one
 -- table under one statement.
--- Assumes nothing.
 use Prim.Native.Nat.{ℕ}
 use mathlib.Core.Path.{_≡_, refl}
 use mathlib.Core.List.{List, [], _∷_, map}

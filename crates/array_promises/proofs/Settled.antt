@@ -1,7 +1,6 @@
 -- "Each public call's contract determines its answer and everything lent to it afterwards, on refusal as on success; prove that two outcomes
 -- meeting it are equal." Of the array's operation, as the two machines' own sources state it: `Post` of the call, of its arguments a, an answer r
 -- and what stands behind the lent references at exit, s.
--- Assumes nothing.
 use mathlib.Core.Path.{_≡_, sym, _∙_}
 use contract.Lifetimes.{Lfts}
 use borrow.Fn.World.{ArgsD, ResD}

@@ -1,5 +1,4 @@
 -- The parts of an answer that depend on a case, and a word's line.
--- Assumes nothing.
 use Prim.Native.Nat.{ℕ, _<_, _≤_}
 use mathlib.Core.Path.{_≡_, refl}
 use mathlib.Core.List.{List, [], _++_, append-assoc}

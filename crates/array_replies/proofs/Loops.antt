@@ -1,5 +1,4 @@
 -- A list's words put by a loop: what is put, and what is still to be.
--- Assumes nothing.
 use Prim.Native.Nat.{ℕ, suc, _+_, _-_, _<_}
 use mathlib.Core.Path.{_≡_}
 use mathlib.Core.List.{List}

@@ -1,5 +1,4 @@
 -- 131,072 bytes are room for every answer and its newline, of buffers of at most 2,048 words.
--- Assumes nothing.
 use Prim.Native.Nat.{ℕ, zero, suc, _+_, _-_, _*_, _<_, _≤_}
 use mathlib.Core.Path.{_≡_}
 use mathlib.Core.Logic.{_⊎_, ⊎-elim}

@@ -1,5 +1,4 @@
 -- What is printed of each outcome of the array's commands, in the words of docs/BOARD.md, without the newline at its end.
--- Assumes nothing.
 use Prim.Native.Nat.{ℕ, zero, suc}
 use mathlib.Core.Bool.{_&&_}
 use mathlib.Core.List.{List, [], _++_}

@@ -1,5 +1,4 @@
 -- What each operation answers and leaves where nothing is turned down: an operation keeps what it doesn't name.
--- Assumes nothing.
 use Prim.Native.Nat.{ℕ}
 use mathlib.Core.Path.{_≡_, refl, sym, ap, _∙_}
 use mathlib.Core.Bool.{Bool, true, false}

@@ -1,5 +1,4 @@
 -- What the definitions that go bit by bit are as operations on whole numbers: agreement, the read bus, what a write leaves.
--- Assumes nothing.
 use Prim.Native.Nat.{ℕ, _-_, _^_, _≤_, _<_, min, max}
 use mathlib.Core.Path.{_≡_, refl, sym, ap₂, _∙_}
 use mathlib.Core.Bool.{Bool, true, false, not}

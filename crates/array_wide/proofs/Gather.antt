@@ -1,5 +1,4 @@
 -- The OR of the chosen words' ones, gathered one word at a time: what is gathered and what is left give the whole; how many were chosen.
--- Assumes nothing.
 use Prim.Native.Nat.{ℕ, zero, suc, _+_, _^_, _≤_, _<_}
 use mathlib.Core.Path.{_≡_, sym, ap, _∙_}
 use mathlib.Core.Bool.{Bool, true, false}

@@ -1,5 +1,4 @@
 -- What the sweeps promise by rule is what the definitions say, where nothing is turned down.
--- Assumes nothing.
 use Prim.Native.Nat.{ℕ, _^_, _<_}
 use mathlib.Core.Path.{_≡_, refl, ap, ap₂, _∙_}
 use mathlib.Core.Bool.{Bool, true, false}

@@ -1,6 +1,5 @@
 -- What the word-wide machine does to each word, by operations on whole numbers. proofs/Bridge ties each rule to the definition in `array` that it
 -- computes, where the array is sound.
--- Assumes nothing.
 use Prim.Native.Nat.{ℕ, _-_, _^_}
 use mathlib.Core.Bool.{Bool}
 use mathlib.Core.List.{List, [], _∷_}

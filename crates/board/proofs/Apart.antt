@@ -1,12 +1,11 @@
 -- A line is for the array or for the machine, and leaves the other as it was.
--- Assumes nothing.
 use Prim.Native.Nat.{ℕ}
 use mathlib.Core.Path.{_≡_, refl}
 use mathlib.Core.Bool.{true, false}
 use mathlib.Core.List.{List}
 use Rattle.text.specs.Words.{wordsOf}
 use Rattle.lines.specs.declared.Line.{Line}
-use Rattle.commands.specs.Ends.{badLine}
+use Rattle.console_commands.specs.Ends.{badLine}
 use Rattle.console.specs.Obeying.{Desk, only}
 use Rattle.array_console.specs.declared.Rack.{Rack}
 use Rattle.array_console.specs.declared.Outcome.the-variants as outcome

@@ -1,5 +1,4 @@
 -- A line that is passed over leaves all as it was, and any other is obeyed.
--- Assumes nothing.
 use Prim.Native.Nat.{ℕ, _<_, _≤_}
 use mathlib.Core.Path.{_≡_, refl}
 use mathlib.Core.Bool.{true, false}
@@ -9,8 +8,8 @@ use lib.Dec.{eqb}
 use lib.ListN.{length, getD}
 use Rattle.text.specs.Words.{wordsOf}
 use Rattle.lines.specs.declared.Line.{Line}
-use Rattle.commands.specs.declared.Board.{Board}
-use Rattle.commands.specs.Ends.{badLine}
+use Rattle.console_commands.specs.declared.Board.{Board}
+use Rattle.console_commands.specs.Ends.{badLine}
 use Rattle.console.specs.Obeying.{Desk, After, only, obeyed}
 use Rattle.board.specs.Taking.{isComment, taken}
 

@@ -1,13 +1,12 @@
 -- The machine and the array of three-state cells side by side: "The two have nothing in common: no command of the one changes the other"
 -- (docs/BOARD.md).
--- Assumes nothing.
 use Prim.Native.Nat.{ℕ}
 use mathlib.Core.Bool.{Bool, not, _&&_}
 use mathlib.Core.List.{List}
 use Rattle.laws.specs.Bits.{pick}
 use Rattle.text.specs.Words.{wordsOf}
 use Rattle.lines.specs.declared.Line.{Line}
-use Rattle.commands.specs.Ends.{badLine}
+use Rattle.console_commands.specs.Ends.{badLine}
 use Rattle.console.specs.Obeying.{Desk, After, only}
 use Rattle.array_console.specs.declared.Outcome.the-variants as outcome
 use Rattle.array_console.specs.Commands.{ended}

@@ -1,5 +1,4 @@
 -- Which lines the program answers, in the words of docs/BOARD.md, and what stands after one. `kept` are the bytes of the line that are kept.
--- Assumes nothing.
 use Prim.Native.Nat.{ℕ}
 use mathlib.Core.Bool.{Bool, false, not, _||_}
 use mathlib.Core.List.{List, [], _∷_}
@@ -7,7 +6,7 @@ use lib.Dec.{eqb}
 use Rattle.laws.specs.Bits.{pick}
 use Rattle.text.specs.Words.{wordsOf}
 use Rattle.lines.specs.declared.Line.{Line}
-use Rattle.commands.specs.Ends.{badLine}
+use Rattle.console_commands.specs.Ends.{badLine}
 use Rattle.console.specs.Obeying.{Desk, After, only, obeyed}
 
 -- "one whose first byte is `#`"

@@ -1,10 +1,11 @@
 // The program `board`: the console at a terminal. It reads commands from standard input, one to a line, gives each to the library
 // and prints the answer before it reads the next. docs/BOARD.md teaches it. Bad lines never stop it; the end of the input does.
 use array_console::Rack;
-use commands::Board;
-use commands::Outcome;
+use console_commands::Board;
+use console_commands::Outcome;
 use lines::Line;
 use lines::Reader;
+use machine::Response;
 ghost use mathlib.Core.Path.{_≡_};
 ghost use Rattle.text.specs.Words.{wordsOf};
 ghost use Rattle.console.specs.Obeying.{desk, obeyed};
@@ -37,7 +38,7 @@ fn is_comment(line: &[u8]) -> bool
 }
 
 fn print(outcome: Outcome, bytes: &[u8], out: &mut [u8]) {
-    let n = replies::put(out, outcome, bytes);
+    let n = console_replies::put(out, outcome, bytes);
     output::write(out, n);
 }
 
@@ -46,7 +47,7 @@ fn answer(
     board: Board,
     line: &[u8],
     words: &mut [u64],
-    responses: &mut [u8],
+    responses: &mut [Response],
     bytes: &mut [u8],
     out: &mut [u8],
 ) -> Board
@@ -67,7 +68,7 @@ fn take(
     found: Line,
     line: &[u8],
     words: &mut [u64],
-    responses: &mut [u8],
+    responses: &mut [Response],
     bytes: &mut [u8],
     out: &mut [u8],
 ) -> Board
@@ -126,7 +127,7 @@ fn take_side(
     found: Line,
     line: &[u8],
     words: &mut [u64],
-    responses: &mut [u8],
+    responses: &mut [Response],
     bytes: &mut [u8],
     ones: &mut [u64],
     xs: &mut [u64],
@@ -161,7 +162,7 @@ fn take_kept(
     found: Line,
     line: &[u8],
     words: &mut [u64],
-    responses: &mut [u8],
+    responses: &mut [Response],
     bytes: &mut [u8],
     ones: &mut [u64],
     xs: &mut [u64],
@@ -191,7 +192,7 @@ fn next(
     chunk: &mut [u8],
     line: &mut [u8],
     words: &mut [u64],
-    responses: &mut [u8],
+    responses: &mut [Response],
     bytes: &mut [u8],
     ones: &mut [u64],
     xs: &mut [u64],
@@ -231,7 +232,7 @@ fn serve(
     chunk: &mut [u8],
     line: &mut [u8],
     words: &mut [u64],
-    responses: &mut [u8],
+    responses: &mut [Response],
     bytes: &mut [u8],
     ones: &mut [u64],
     xs: &mut [u64],
@@ -240,7 +241,7 @@ fn serve(
 ) {
     let mut standing = Standing {
         sides: Sides {
-            board: commands::fresh(8, 3),
+            board: console_commands::fresh(8, 3),
             rack: array_console::fresh(8, 3),
         },
         reader: lines::start(),

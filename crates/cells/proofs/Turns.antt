@@ -1,5 +1,4 @@
 -- From what the plain machine's cells give to what document 01 says of one word in one pulse, and of all of them.
--- Assumes nothing.
 use Prim.Native.Nat.{ℕ}
 use mathlib.Core.Path.{_≡_, ap, ap₂, _∙_}
 use mathlib.Core.Bool.{Bool, true, false, _&&_, _||_}

@@ -1,5 +1,4 @@
 -- What one cell passes to the next: the bottom of a syllable, codes, statuses, carries.
--- Assumes nothing.
 use Prim.Native.Nat.{ℕ, zero, suc, _+_, _-_, _/_, _%_, _≤_, _<_}
 use mathlib.Core.Path.{_≡_, refl}
 use native.Mathlib.Numerals.{add-one}

@@ -1,5 +1,4 @@
 -- What merging by a mask makes of a word and of response bits.
--- Assumes nothing.
 use Prim.Native.Nat.{ℕ, _-_, _^_, _<_, max}
 use mathlib.Core.Path.{_≡_, refl, ap, _∙_}
 use mathlib.Core.Bool.{Bool, true, false}

@@ -1,5 +1,4 @@
 -- Names that the inner functions' contracts use for one step of a loop. The public call cites none of them.
--- Assumes nothing.
 use Prim.Native.Nat.{ℕ, _+_, _*_, _^_}
 use mathlib.Core.Bool.{Bool, true, _||_}
 use lib.Dec.{eqb}

@@ -1,5 +1,4 @@
 -- A table of commands asked for the place of a name: the entry there, or past its end what stands for no name.
--- Assumes nothing.
 use Prim.Native.Nat.{ℕ, suc, _-_, _<_, _≤_}
 use Prim.Native.String.{String}
 use native.Mathlib.Omega.{arith}
@@ -14,10 +13,10 @@ use Rattle.text.specs.Ascii.{ascii}
 use Rattle.text.specs.declared.Place.{Place}
 use Rattle.text.specs.Words.{wordAt, wordsOf, placeOf}
 use Rattle.text.proofs.Runs.{here-none, here-one}
-use Rattle.commands.specs.declared.Turn.{Turn}
-use Rattle.commands.specs.declared.Outcome.{Outcome}
-use Rattle.commands.specs.declared.Outcome.the-variants as outcome
-use Rattle.commands.specs.Ends.{badLine}
+use Rattle.console_commands.specs.declared.Turn.{Turn}
+use Rattle.console_commands.specs.declared.Outcome.{Outcome}
+use Rattle.console_commands.specs.declared.Outcome.the-variants as outcome
+use Rattle.console_commands.specs.Ends.{badLine}
 use Rattle.console.specs.Obeying.{Desk, desk, Looked, Marked, After, among, said, unmarked, unchanged, only, behind, own, lookings, looked, markings, marked, changes, changed, makings, named, onMachine, obeyed}
 
 -- ---- any table

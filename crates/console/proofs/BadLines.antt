@@ -1,6 +1,5 @@
 -- "a line that isn't one of those .. prints `bad line` and changes nothing": where a line's outcome is `bad line`, the board and its two
 -- buffers are what they were. The console's room for an image is scratch.
--- Assumes nothing.
 use Prim.Native.Nat.{ℕ, zero, suc}
 use Prim.Native.String.{String}
 use mathlib.Core.Path.{_≡_, refl}
@@ -20,16 +19,16 @@ use Rattle.text.specs.Words.{wordsOf, placeOf}
 use Rattle.text.specs.Rows.{fits, values, byteAt}
 use Rattle.text.specs.declared.Number.{Number}
 use Rattle.text.specs.declared.Number.the-variants.{Is, Bad}
-use Rattle.commands.specs.declared.Board.{Board}
-use Rattle.commands.specs.declared.Outcome.the-variants as outcome
-use Rattle.commands.specs.Ends.{badLine}
-use Rattle.setting.specs.Settings.{registerNames, letterFor, loaded, hits}
-use Rattle.pulsing.specs.declared.Named.{Named}
-use Rattle.pulsing.specs.declared.Named.the-variants as lines
-use Rattle.pulsing.specs.Lines.{linesOf}
-use Rattle.pulsing.specs.Calls.{wordIn, pulseOutcome, pulseAfter}
-use Rattle.working.specs.Jobs.{offered}
-use Rattle.storing.specs.Images.{imageLength, readTurn, readWords, readResponses, fitting}
+use Rattle.console_commands.specs.declared.Board.{Board}
+use Rattle.console_commands.specs.declared.Outcome.the-variants as outcome
+use Rattle.console_commands.specs.Ends.{badLine}
+use Rattle.console_setting.specs.Settings.{registerNames, letterFor, loaded, hits}
+use Rattle.console_pulsing.specs.declared.Named.{Named}
+use Rattle.console_pulsing.specs.declared.Named.the-variants as lines
+use Rattle.console_pulsing.specs.Lines.{linesOf}
+use Rattle.console_pulsing.specs.Calls.{wordIn, pulseOutcome, pulseAfter}
+use Rattle.console_working.specs.Jobs.{offered}
+use Rattle.console_storing.specs.Images.{imageLength, readTurn, readWords, readResponses, fitting}
 use Rattle.console.specs.Obeying.{Desk, After, among, only, unmarked, unchanged, behind, own, machineOf, stateOf, looked, markings, marked, changes, changed, onMachine, reading, makings, named, obeyed}
 use Rattle.console.proofs.Others.{wrong, wrong-turn, fine-other, told-other, replied-other, begun-other, given-other, ran-other, taken-other}
 

@@ -1,5 +1,4 @@
 -- What is printed of the library's answers is never `bad line`, so a line that prints it was not right.
--- Assumes nothing.
 use mathlib.Core.Path.{_≡_, refl}
 use mathlib.Core.Bool.{Bool, true, false}
 use Rattle.laws.specs.Bits.{pick}
@@ -14,13 +13,13 @@ use Rattle.rounds.specs.declared.Reply.{Reply}
 use Rattle.rounds.specs.declared.Reply.the-variants as reply
 use Rattle.image.specs.declared.Read.{Read}
 use Rattle.image.specs.declared.Read.the-variants as read
-use Rattle.commands.specs.declared.Board.{Board}
-use Rattle.commands.specs.declared.Turn.{Turn}
-use Rattle.commands.specs.declared.Outcome.{Outcome}
-use Rattle.commands.specs.declared.Outcome.the-variants as outcome
-use Rattle.pulsing.specs.Calls.{told, replied}
-use Rattle.working.specs.Jobs.{begun, given, ran}
-use Rattle.storing.specs.Images.{taken}
+use Rattle.console_commands.specs.declared.Board.{Board}
+use Rattle.console_commands.specs.declared.Turn.{Turn}
+use Rattle.console_commands.specs.declared.Outcome.{Outcome}
+use Rattle.console_commands.specs.declared.Outcome.the-variants as outcome
+use Rattle.console_pulsing.specs.Calls.{told, replied}
+use Rattle.console_working.specs.Jobs.{begun, given, ran}
+use Rattle.console_storing.specs.Images.{taken}
 
 -- an outcome that is another
 abbrev pub Other : Outcome → Type 0

@@ -1,6 +1,5 @@
 -- Which command a line is, and all that stands after it: docs/BOARD.md, "Line". A table has the commands' names in one row and what each
 -- does in the other, in the same order.
--- Assumes nothing.
 use Prim.Native.Nat.{ℕ}
 use Prim.Native.String.{String}
 use mathlib.Core.Bool.{_&&_}
@@ -14,16 +13,16 @@ use Rattle.jobs.specs.Runs.{State, state}
 use Rattle.text.specs.Ascii.{ascii}
 use Rattle.text.specs.Words.{wordsOf, placeOf}
 use Rattle.text.specs.Rows.{fits}
-use Rattle.commands.specs.declared.Board.{Board}
-use Rattle.commands.specs.declared.Turn.{Turn}
-use Rattle.commands.specs.declared.Outcome.{Outcome}
-use Rattle.commands.specs.declared.Outcome.the-variants as outcome
-use Rattle.commands.specs.Ends.{badLine}
-use Rattle.setting.specs.Settings as settings
-use Rattle.pulsing.specs.Lines as naming
-use Rattle.pulsing.specs.Calls as calls
-use Rattle.working.specs.Jobs as jobs
-use Rattle.storing.specs.Images as images
+use Rattle.console_commands.specs.declared.Board.{Board}
+use Rattle.console_commands.specs.declared.Turn.{Turn}
+use Rattle.console_commands.specs.declared.Outcome.{Outcome}
+use Rattle.console_commands.specs.declared.Outcome.the-variants as outcome
+use Rattle.console_commands.specs.Ends.{badLine}
+use Rattle.console_setting.specs.Settings as settings
+use Rattle.console_pulsing.specs.Lines as naming
+use Rattle.console_pulsing.specs.Calls as calls
+use Rattle.console_working.specs.Jobs as jobs
+use Rattle.console_storing.specs.Images as images
 
 -- the board, its two buffers, and the console's room for an image
 pub record Desk : Type 0 where

@@ -1,7 +1,8 @@
 // Which command a line is. docs/BOARD.md has the language; `setting`, `pulsing`, `working` and `storing` have the commands.
-use commands::Board;
-use commands::Outcome;
-use commands::Turn;
+use console_commands::Board;
+use console_commands::Outcome;
+use console_commands::Turn;
+use machine::Response;
 ghost use mathlib.Core.Path.{_≡_};
 ghost use Rattle.text.specs.Words.{wordsOf};
 ghost use Rattle.console.specs.Obeying as obeying;
@@ -11,7 +12,7 @@ pub fn obey(
     board: Board,
     line: &[u8],
     words: &mut [u64],
-    responses: &mut [u8],
+    responses: &mut [Response],
     bytes: &mut [u8],
 ) -> Turn
     ensures { λ r. ⌜ r ≡ obeying.obeyed (obeying.desk board (now (words .entry)) (now (responses .entry)) (now (bytes .entry))) (wordsOf (now (line .entry))) .turn ⌝ }
@@ -23,7 +24,7 @@ pub fn obey(
     let from = word.from;
     let to = word.to;
     if from == to {
-        return commands::bad_line(board);
+        return console_commands::bad_line(board);
     }
     let end = line.len();
     by_name(
@@ -42,7 +43,7 @@ fn by_name(
     name: &[u8],
     rest: &[u8],
     words: &mut [u64],
-    responses: &mut [u8],
+    responses: &mut [Response],
     bytes: &mut [u8],
 ) -> Turn
     ensures { λ r. ⌜ r ≡ obeying.named (obeying.desk board (now (words .entry)) (now (responses .entry)) (now (bytes .entry))) (now (name .entry)) (wordsOf (now (rest .entry))) .turn ⌝ }
@@ -51,10 +52,10 @@ fn by_name(
     ensures { λ _. ⌜ now (bytes .exit) ≡ obeying.named (obeying.desk board (now (words .entry)) (now (responses .entry)) (now (bytes .entry))) (now (name .entry)) (wordsOf (now (rest .entry))) .bytes ⌝ }
 {
     match text::words::which(b"machine lend resume fit", name) {
-        0 => setting::make(board, rest, words, responses),
-        1 => setting::lend(board, rest, responses),
-        2 => storing::resume(board, rest, words, responses, bytes),
-        3 => storing::fit(board, rest, words, responses, bytes),
+        0 => console_setting::make(board, rest, words, responses),
+        1 => console_setting::lend(board, rest, responses),
+        2 => console_storing::resume(board, rest, words, responses, bytes),
+        3 => console_storing::fit(board, rest, words, responses, bytes),
         _ => on_machine(board, name, rest, words, responses, bytes),
     }
 }
@@ -65,7 +66,7 @@ fn on_machine(
     name: &[u8],
     rest: &[u8],
     words: &mut [u64],
-    responses: &mut [u8],
+    responses: &mut [Response],
     bytes: &mut [u8],
 ) -> Turn
     ensures { λ r. ⌜ r ≡ obeying.onMachine (obeying.desk board (now (words .entry)) (now (responses .entry)) (now (bytes .entry))) (now (name .entry)) (wordsOf (now (rest .entry))) .turn ⌝ }
@@ -76,10 +77,10 @@ fn on_machine(
     let n = board.words;
     let m = board.responses;
     if words.len() < n {
-        return commands::bad_line(board);
+        return console_commands::bad_line(board);
     }
     if responses.len() < m {
-        return commands::bad_line(board);
+        return console_commands::bad_line(board);
     }
     change(
         board,
@@ -97,7 +98,7 @@ fn change(
     name: &[u8],
     rest: &[u8],
     words: &mut [u64],
-    responses: &mut [u8],
+    responses: &mut [Response],
     bytes: &mut [u8],
 ) -> Turn
     ensures { λ r. ⌜ r ≡ obeying.changed (obeying.desk board (now (words .entry)) (now (responses .entry)) (now (bytes .entry))) (now (name .entry)) (wordsOf (now (rest .entry))) .turn ⌝ }
@@ -106,12 +107,12 @@ fn change(
     ensures { λ _. ⌜ now (bytes .exit) ≡ obeying.changed (obeying.desk board (now (words .entry)) (now (responses .entry)) (now (bytes .entry))) (now (name .entry)) (wordsOf (now (rest .entry))) .bytes ⌝ }
 {
     match text::words::which(b"load job drop start step run", name) {
-        0 => setting::load(board, rest),
-        1 => setting::write_job(board, rest),
-        2 => setting::drop_job(board, rest),
-        3 => working::start(board, rest, words, responses),
-        4 => working::step(board, rest, words, responses),
-        5 => working::run(board, rest, words, responses),
+        0 => console_setting::load(board, rest),
+        1 => console_setting::write_job(board, rest),
+        2 => console_setting::drop_job(board, rest),
+        3 => console_working::start(board, rest, words, responses),
+        4 => console_working::step(board, rest, words, responses),
+        5 => console_working::run(board, rest, words, responses),
         _ => Turn {
             board,
             outcome: mark(board, name, rest, words, responses, bytes),
@@ -125,7 +126,7 @@ fn mark(
     name: &[u8],
     rest: &[u8],
     words: &mut [u64],
-    responses: &mut [u8],
+    responses: &mut [Response],
     bytes: &mut [u8],
 ) -> Outcome
     ensures { λ r. ⌜ r ≡ obeying.marked (obeying.desk board (now (words .entry)) (now (responses .entry)) (now (bytes .entry))) (now (name .entry)) (wordsOf (now (rest .entry))) .outcome ⌝ }
@@ -134,12 +135,12 @@ fn mark(
     ensures { λ _. ⌜ now (bytes .exit) ≡ obeying.marked (obeying.desk board (now (words .entry)) (now (responses .entry)) (now (bytes .entry))) (now (name .entry)) (wordsOf (now (rest .entry))) .bytes ⌝ }
 {
     match text::words::which(b"word response pulse cells done faulty", name) {
-        0 => setting::write_word(rest, words),
-        1 => setting::write_response(rest, responses),
-        2 => pulsing::pulse(board, rest, words, responses),
-        3 => pulsing::cells(board, rest, words, responses),
-        4 => pulsing::done(board, rest, words, responses),
-        5 => pulsing::faulty(board, rest, words, responses),
+        0 => console_setting::write_word(rest, words),
+        1 => console_setting::write_response(rest, responses),
+        2 => console_pulsing::pulse(board, rest, words, responses),
+        3 => console_pulsing::cells(board, rest, words, responses),
+        4 => console_pulsing::done(board, rest, words, responses),
+        5 => console_pulsing::faulty(board, rest, words, responses),
         _ => look(board, name, rest, words, responses, bytes),
     }
 }
@@ -150,21 +151,21 @@ fn look(
     name: &[u8],
     rest: &[u8],
     words: &[u64],
-    responses: &[u8],
+    responses: &[Response],
     bytes: &mut [u8],
 ) -> Outcome
     ensures { λ r. ⌜ r ≡ obeying.looked (obeying.desk board (now (words .entry)) (now (responses .entry)) (now (bytes .entry))) (now (name .entry)) (wordsOf (now (rest .entry))) .outcome ⌝ }
     ensures { λ _. ⌜ now (bytes .exit) ≡ obeying.looked (obeying.desk board (now (words .entry)) (now (responses .entry)) (now (bytes .entry))) (now (name .entry)) (wordsOf (now (rest .entry))) .bytes ⌝ }
 {
     match text::words::which(b"panel resolve tree show total store list room", name) {
-        0 => setting::tell_panel(board, rest),
-        1 => pulsing::resolve(board, rest, words, responses),
-        2 => pulsing::tree(board, rest, words, responses),
-        3 => pulsing::show(board, rest, words, responses),
-        4 => working::total(board, rest, words, responses),
-        5 => storing::store(board, rest, words, responses, bytes),
-        6 => storing::list(board, rest, words, responses, bytes),
-        7 => storing::room(board, rest, words, responses, bytes),
+        0 => console_setting::tell_panel(board, rest),
+        1 => console_pulsing::resolve(board, rest, words, responses),
+        2 => console_pulsing::tree(board, rest, words, responses),
+        3 => console_pulsing::show(board, rest, words, responses),
+        4 => console_working::total(board, rest, words, responses),
+        5 => console_storing::store(board, rest, words, responses, bytes),
+        6 => console_storing::list(board, rest, words, responses, bytes),
+        7 => console_storing::room(board, rest, words, responses, bytes),
         _ => Outcome::BadLine,
     }
 }

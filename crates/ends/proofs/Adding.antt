@@ -1,5 +1,4 @@
 -- A job's multiadd on one word: P gains the addend in words with Y, and nothing else changes.
--- Assumes nothing.
 use Prim.Native.Nat.{ℕ, zero, suc, _+_, _-_, _*_, _/_, _%_, _^_, _≤_, _<_}
 use mathlib.Core.Path.{_≡_, refl, sym, ap, _∙_}
 use mathlib.Core.Bool.{Bool, true, false}
@@ -12,8 +11,8 @@ use Rattle.laws.proofs.Bits.{shifted, number-is}
 use Rattle.machine.specs.Machine.{over, tops, selected}
 use Rattle.machine.specs.Pulse.{addend, sums, added, change, wordAfter, responseAfter}
 use Rattle.machine.proofs.Masks.{addend-is}
-use Rattle.plans.specs.declared.Span.{Span}
-use Rattle.plans.specs.Commands.{plus}
+use Rattle.job_plans.specs.declared.Span.{Span}
+use Rattle.job_plans.specs.Commands.{plus}
 use Rattle.ends.proofs.Shapes.{from, above, rest, rest-none}
 use Rattle.ends.proofs.Parts.{addedTo, Gains, gains-add}
 

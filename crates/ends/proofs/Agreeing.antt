@@ -1,5 +1,4 @@
 -- Two numbers that agree at the bits of a mask; masks of one bit and of two.
--- Assumes nothing.
 use Prim.Native.Nat.{ℕ, zero, suc, _/_, _^_, _<_, max}
 use mathlib.Core.Path.{_≡_, refl, ap, _∙_}
 use mathlib.Core.Bool.{Bool, true, false, _&&_, _||_}

@@ -1,5 +1,4 @@
 -- The greatest and the smallest of A's values in the selected words: a bound on each, and the value of one of them.
--- Assumes nothing.
 use Prim.Native.Nat.{ℕ, zero, suc, _-_, _≤_, _<_, min, max}
 use mathlib.Core.Path.{_≡_, refl}
 use mathlib.Core.Bool.{Bool, true, false}
@@ -9,9 +8,9 @@ use lib.Dec.{leb}
 use lib.ListN.{length, getD}
 use borrow.Author.Tests.{leb-true, leb-false}
 use Rattle.machine.specs.Machine.{selected}
-use Rattle.plans.specs.declared.Job.{Job}
-use Rattle.tally.specs.Totals.{valueOf, values, greatestOf, smallestOf}
-use Rattle.tally.proofs.Extremes.{keepValue}
+use Rattle.job_plans.specs.declared.Job.{Job}
+use Rattle.job_tally.specs.Totals.{valueOf, values, greatestOf, smallestOf}
+use Rattle.job_tally.proofs.Extremes.{keepValue}
 
 module _ (o : Job) where
   abbrev chosenAt : List ℕ → ℕ → Bool

@@ -1,17 +1,16 @@
 -- Every kind of job: after an accepted start each step gives the held job's command until the stated pulses are given, and then the job is over.
--- Assumes nothing.
 use Prim.Native.Nat.{ℕ, zero, suc, _+_, _<_}
 use mathlib.Core.Path.{_≡_, refl, ap, _∙_}
 use native.Mathlib.Omega.{arith}
 use Rattle.machine.specs.Machine.{Machine}
 use Rattle.machine.specs.Pulse.{pulsed}
-use Rattle.plans.specs.declared.Job.{Job}
-use Rattle.plans.specs.declared.Held.{Held}
-use Rattle.plans.specs.declared.Held.the-variants.{Nothing}
-use Rattle.plans.specs.Fields.{Kind, greatest, smallest, scaledAdd, product, unknown, kindOf, badUsed}
-use Rattle.plans.specs.Places.{first}
-use Rattle.plans.specs.Commands.{command}
-use Rattle.tally.specs.Totals.{pulses}
+use Rattle.job_plans.specs.declared.Job.{Job}
+use Rattle.job_plans.specs.declared.Held.{Held}
+use Rattle.job_plans.specs.declared.Held.the-variants.{Nothing}
+use Rattle.job_plans.specs.Fields.{Kind, greatest, smallest, scaledAdd, product, unknown, kindOf, badUsed}
+use Rattle.job_plans.specs.Places.{first}
+use Rattle.job_plans.specs.Commands.{command}
+use Rattle.job_tally.specs.Totals.{pulses}
 use Rattle.jobs.specs.Runs.{State, stepped, steps, goOn, stepsTaken}
 use Rattle.ends.specs.Ends.{Accepted, begun, Gives, Course, ended}
 use Rattle.ends.proofs.Steps.{on, steps-on, steps-last, steps-idle}

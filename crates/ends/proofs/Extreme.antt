@@ -1,5 +1,4 @@
 -- An extreme: X is narrowed from the top place down to the selected words with the best value.
--- Assumes nothing.
 use Prim.Native.Nat.{ℕ, zero, suc, _+_, _≤_, _<_}
 use mathlib.Core.Path.{_≡_, refl}
 use mathlib.Core.Bool.{true, false, _||_}
@@ -11,10 +10,10 @@ use Rattle.laws.proofs.Digits.{Bit, off, on as lit}
 use Rattle.laws.proofs.Bits.{digit-at}
 use Rattle.machine.specs.Machine.{Machine}
 use Rattle.machine.proofs.Checks.{Sound}
-use Rattle.plans.specs.declared.Job.{Job}
-use Rattle.plans.specs.declared.Held.the-variants.{Nothing, Holds}
-use Rattle.plans.specs.Places.{badHeld, moved, nextBelow}
-use Rattle.tally.specs.Totals.{sumBelow, ones}
+use Rattle.job_plans.specs.declared.Job.{Job}
+use Rattle.job_plans.specs.declared.Held.the-variants.{Nothing, Holds}
+use Rattle.job_plans.specs.Places.{badHeld, moved, nextBelow}
+use Rattle.job_tally.specs.Totals.{sumBelow, ones}
 use Rattle.ends.specs.Ends.{SameSize}
 use Rattle.ends.proofs.Steps.{on, pulsedBy, countedBy, Run, stay, step-then}
 use Rattle.ends.proofs.Fields.{ExtremeFields}

@@ -1,5 +1,4 @@
 -- What an accepted start shows of a job's used fields.
--- Assumes nothing.
 use Prim.Native.Nat.{ℕ, _+_, _≤_, _<_}
 use mathlib.Core.Path.{_≡_, refl}
 use mathlib.Core.Bool.{Bool, true, false, _&&_, _||_}
@@ -10,9 +9,9 @@ use borrow.Author.Tests.{ltb-false, leb-false, eqb-false}
 use Rattle.laws.specs.Bits.{bit}
 use Rattle.machine.specs.Machine.{responseBits}
 use Rattle.machine.proofs.Checks.{or-left, or-right}
-use Rattle.plans.specs.declared.Span.{Span}
-use Rattle.plans.specs.declared.Job.{Job}
-use Rattle.plans.specs.Fields.{badSyllable, overlaps, badWorkingBit, badExtreme, badScaledAdd, badProduct}
+use Rattle.job_plans.specs.declared.Span.{Span}
+use Rattle.job_plans.specs.declared.Job.{Job}
+use Rattle.job_plans.specs.Fields.{badSyllable, overlaps, badWorkingBit, badExtreme, badScaledAdd, badProduct}
 use Rattle.ends.specs.Ends.{Outside}
 
 -- a syllable of the word

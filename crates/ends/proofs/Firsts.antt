@@ -1,5 +1,4 @@
 -- A held job that stands at its first place is the one that its start holds; and how many pulses a job takes at most.
--- Assumes nothing.
 use Prim.Native.Nat.{ℕ, zero, suc, _+_, _*_, _-_, _/_, _%_, _^_, _≤_, _<_}
 use mathlib.Core.Path.{_≡_, refl}
 use mathlib.Core.Bool.{Bool, true, false}
@@ -10,14 +9,14 @@ use borrow.Author.Tests.{eqb-true}
 use Rattle.laws.specs.Bits.{bit, digit}
 use Rattle.machine.specs.declared.Check.the-variants.{Passed}
 use Rattle.machine.specs.Machine.{Machine}
-use Rattle.plans.specs.declared.Span.{Span}
-use Rattle.plans.specs.declared.Job.{Job}
-use Rattle.plans.specs.declared.Held.the-variants.{Holds}
-use Rattle.plans.specs.Fields.{Kind, greatest, smallest, scaledAdd, product, unknown, kindOf, job, isZero, unusedZeroFor}
-use Rattle.plans.specs.Places.{none, firstFor, first, atFirst, badHeld, stepCheck}
-use Rattle.plans.proofs.Fair.{and-true, Fair, fair, extreme-fields, scaled-fields, product-fields}
-use Rattle.plans.proofs.Standing.{narrow, fair-held}
-use Rattle.tally.specs.Totals.{sumBelow, values, greatestOf, smallestOf, pulsesFor, pulses}
+use Rattle.job_plans.specs.declared.Span.{Span}
+use Rattle.job_plans.specs.declared.Job.{Job}
+use Rattle.job_plans.specs.declared.Held.the-variants.{Holds}
+use Rattle.job_plans.specs.Fields.{Kind, greatest, smallest, scaledAdd, product, unknown, kindOf, job, isZero, unusedZeroFor}
+use Rattle.job_plans.specs.Places.{none, firstFor, first, atFirst, badHeld, stepCheck}
+use Rattle.job_plans.proofs.Fair.{and-true, Fair, fair, extreme-fields, scaled-fields, product-fields}
+use Rattle.job_plans.proofs.Standing.{narrow, fair-held}
+use Rattle.job_tally.specs.Totals.{sumBelow, values, greatestOf, smallestOf, pulsesFor, pulses}
 
 -- ---- a job that stands at its first place is the job that its start holds
 

@@ -1,5 +1,4 @@
 -- Greatest of A: X marks the selected words with the greatest value, after 1 + a pulses and one for each 1 of that value.
--- Assumes nothing.
 use Prim.Native.Nat.{ℕ, _+_, _-_, _^_, _<_}
 use mathlib.Core.Path.{_≡_, refl, sym, ap, ap₂, _∙_}
 use mathlib.Core.Bool.{false}
@@ -10,11 +9,11 @@ use lib.Dec.{eqb}
 use lib.Pow.{pow-pos}
 use Rattle.laws.specs.Bits.{bit}
 use Rattle.machine.specs.Machine.{Machine}
-use Rattle.plans.specs.declared.Job.{Job}
-use Rattle.plans.specs.Fields.{greatest, kindOf, badExtreme, badUsed}
-use Rattle.plans.specs.Places.{first}
-use Rattle.plans.specs.Commands.{bitOf}
-use Rattle.tally.specs.Totals.{ones, valueOf, values, greatestOf, pulses}
+use Rattle.job_plans.specs.declared.Job.{Job}
+use Rattle.job_plans.specs.Fields.{greatest, kindOf, badExtreme, badUsed}
+use Rattle.job_plans.specs.Places.{first}
+use Rattle.job_plans.specs.Commands.{bitOf}
+use Rattle.job_tally.specs.Totals.{ones, valueOf, values, greatestOf, pulses}
 use Rattle.ends.specs.Ends.{Accepted, word, Course, ended, Marks}
 use Rattle.ends.proofs.Agreeing.{agrees, agrees-one, one-here}
 use Rattle.ends.proofs.Parts.{value-lt, value-bit}

@@ -1,5 +1,4 @@
 -- A job's search on one word: it matches if it is selected and has COMP's bits at the mask; it sets the target bit alone.
--- Assumes nothing.
 use Prim.Native.Nat.{ℕ, _+_, _^_, _<_}
 use mathlib.Core.Path.{_≡_, refl, sym, ap, ap₂, _∙_}
 use mathlib.Core.Bool.{Bool, true, false, _&&_, _||_, and-true, or-true}
@@ -13,7 +12,7 @@ use Rattle.laws.proofs.Bits.{digit-at, number-lt, number-bit, every-like, every
 use Rattle.machine.specs.Machine.{responseBits, selected}
 use Rattle.machine.specs.Search.{code, codeAt, cared, asks, readOver, satisfied, matches, marked}
 use Rattle.machine.specs.Pulse.{wordAfter, responseAfter}
-use Rattle.plans.specs.Commands.{look}
+use Rattle.job_plans.specs.Commands.{look}
 use Rattle.ends.proofs.Agreeing.{agrees, one-here, one-there}
 use Rattle.ends.proofs.Shapes.{from, whole}
 

@@ -1,5 +1,4 @@
 -- A pulse word by word, and a machine that passes 1 to 3 still passes them after a job's pulse.
--- Assumes nothing.
 use Prim.Native.Nat.{ℕ, zero, suc, _^_, _<_}
 use mathlib.Core.Path.{_≡_, refl, sym, ap₂, _∙_}
 use mathlib.Core.Bool.{Bool, true, false}

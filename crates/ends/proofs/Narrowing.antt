@@ -1,5 +1,4 @@
 -- Narrowing to the greatest, place by place: a number at most g is g from bit i up exactly if it is so from bit i + 1 up and, where g has bit i, has it too.
--- Assumes nothing.
 use Prim.Native.Nat.{ℕ, suc, _+_, _*_, _/_, _^_, _≤_, _<_}
 use mathlib.Core.Path.{_≡_, refl, sym, _∙_}
 use mathlib.Core.Bool.{Bool, true, false, _&&_}

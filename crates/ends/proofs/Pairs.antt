@@ -1,5 +1,4 @@
 -- A product visits each pair i, j with i below a, j below b and i + j below p once.
--- Assumes nothing.
 use Prim.Native.Nat.{ℕ, zero, suc, _+_, _-_, _≤_, _<_, min}
 use mathlib.Core.Path.{_≡_, refl, sym, ap, ap₂, _∙_}
 use mathlib.Core.Bool.{Bool, true, false}
@@ -10,8 +9,8 @@ use lib.Dec.{ltb, leb}
 use lib.ListN.{length}
 use borrow.Author.Tests.{ltb-true, ltb-false, leb-true, leb-false}
 use Rattle.laws.specs.Bits.{digit}
-use Rattle.plans.specs.declared.Job.{Job}
-use Rattle.tally.specs.Totals.{sumBelow}
+use Rattle.job_plans.specs.declared.Job.{Job}
+use Rattle.job_tally.specs.Totals.{sumBelow}
 use Rattle.ends.proofs.Visits.{Stop}
 use Rattle.ends.proofs.ScaledPlaces.{lesser}
 use Rattle.ends.proofs.ProductPlaces.{across, rowOf, rows}

@@ -1,5 +1,4 @@
 -- A run of bits of a number, and the number with that run replaced.
--- Assumes nothing.
 use Prim.Native.Nat.{ℕ, suc, _+_, _-_, _*_, _/_, _%_, _^_, _≤_, _<_}
 use mathlib.Core.Path.{_≡_, refl, sym, ap, _∙_}
 use mathlib.Core.Logic.{_⊎_, ⊎-elim}
@@ -9,8 +8,8 @@ use lib.Pow.{pow-pos, pow-add, mod-pow-add, mod-mod-pow, high, low, shr-shr}
 use Rattle.laws.specs.Bits.{bit}
 use Rattle.laws.proofs.Digits.{mod-suc, bit-lt}
 use Rattle.laws.proofs.Bits.{shifted, digit-at, number-is, number-bit, same-bits, bits-same}
-use Rattle.plans.specs.declared.Span.{Span}
-use Rattle.tally.specs.Totals.{valueOf}
+use Rattle.job_plans.specs.declared.Span.{Span}
+use Rattle.job_tally.specs.Totals.{valueOf}
 use Rattle.ends.specs.Ends.{Outside}
 
 -- ---- the k bits from bit lo up, as a number

@@ -1,5 +1,4 @@
 -- The end of an adding job, pulse by pulse: gains add up, and a search with its multiadd is one gain.
--- Assumes nothing.
 use Prim.Native.Nat.{ℕ, _+_, _*_, _%_, _^_, _<_}
 use mathlib.Core.Path.{_≡_, refl, sym, ap, ap₂, _∙_}
 use mathlib.Core.Bool.{Bool, true, false, _&&_}
@@ -12,10 +11,10 @@ use Rattle.laws.specs.Bits.{bit, pick, digit}
 use Rattle.machine.specs.Machine.{Machine, responseBits, selected}
 use Rattle.machine.specs.Pulse.{pulsed, added}
 use Rattle.machine.proofs.Checks.{Sound}
-use Rattle.plans.specs.declared.Job.{Job}
-use Rattle.plans.specs.declared.Command.{Command}
-use Rattle.plans.specs.Commands.{look, plus}
-use Rattle.tally.specs.Totals.{valueOf}
+use Rattle.job_plans.specs.declared.Job.{Job}
+use Rattle.job_plans.specs.declared.Command.{Command}
+use Rattle.job_plans.specs.Commands.{look, plus}
+use Rattle.job_tally.specs.Totals.{valueOf}
 use Rattle.ends.specs.Ends.{word, response, chosen, Outside, SameSize, Adds}
 use Rattle.ends.proofs.Agreeing.{agrees, selected-one, selected-like}
 use Rattle.ends.proofs.Parts.{Gains, gains-none}

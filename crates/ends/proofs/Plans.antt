@@ -1,5 +1,4 @@
 -- The commands and places of greatest and smallest: the same but for the bit that a trial wants.
--- Assumes nothing.
 use Prim.Native.Nat.{ℕ, zero, suc, _+_, _-_, _^_, _<_}
 use mathlib.Core.Path.{_≡_, refl, ap, _∙_}
 use mathlib.Core.Bool.{true, false, _&&_, _||_, or-true}
@@ -7,11 +6,11 @@ use native.Mathlib.Omega.{arith}
 use lib.Dec.{ltb, eqb}
 use borrow.Author.Tests.{eq-eqb, lt-ltb}
 use Rattle.laws.specs.Bits.{pick}
-use Rattle.plans.specs.declared.Job.{Job}
-use Rattle.plans.specs.declared.Held.the-variants.{Holds}
-use Rattle.plans.specs.Fields.{Kind, greatest, smallest, scaledAdd, product, unknown, kindOf, badExtreme, badUsedFor, badUsed, unusedZeroFor, unusedZero}
-use Rattle.plans.specs.Places.{inTableFor, inTable, badHeld, first, firstFor, moved, nextBelow, afterTrial, afterSecond, next}
-use Rattle.plans.specs.Commands.{command, look, bitOf, trial, second}
+use Rattle.job_plans.specs.declared.Job.{Job}
+use Rattle.job_plans.specs.declared.Held.the-variants.{Holds}
+use Rattle.job_plans.specs.Fields.{Kind, greatest, smallest, scaledAdd, product, unknown, kindOf, badExtreme, badUsedFor, badUsed, unusedZeroFor, unusedZero}
+use Rattle.job_plans.specs.Places.{inTableFor, inTable, badHeld, first, firstFor, moved, nextBelow, afterTrial, afterSecond, next}
+use Rattle.job_plans.specs.Commands.{command, look, bitOf, trial, second}
 use Rattle.ends.proofs.Fields.{extreme-fields}
 use Rattle.ends.proofs.Trials.{below-is, Plan}
 

@@ -1,5 +1,4 @@
 -- Product: "P becomes P+A·B", after twice the number of pairs i, j with i+j below p.
--- Assumes nothing.
 use Prim.Native.Nat.{ℕ, zero, suc, _+_, _*_, _<_}
 use mathlib.Core.Path.{_≡_, refl}
 use mathlib.Core.Bool.{false}
@@ -7,11 +6,11 @@ use native.Mathlib.Omega.{arith}
 use lib.Dec.{ltb}
 use Rattle.laws.specs.Bits.{digit}
 use Rattle.machine.specs.Machine.{Machine}
-use Rattle.plans.specs.declared.Job.{Job}
-use Rattle.plans.specs.declared.Held.the-variants.{Holds}
-use Rattle.plans.specs.Fields.{product, kindOf, badScaledAdd, badProduct, badUsed}
-use Rattle.plans.specs.Places.{first, firstFor, moved}
-use Rattle.tally.specs.Totals.{sumBelow, valueOf, pulses}
+use Rattle.job_plans.specs.declared.Job.{Job}
+use Rattle.job_plans.specs.declared.Held.the-variants.{Holds}
+use Rattle.job_plans.specs.Fields.{product, kindOf, badScaledAdd, badProduct, badUsed}
+use Rattle.job_plans.specs.Places.{first, firstFor, moved}
+use Rattle.job_tally.specs.Totals.{sumBelow, valueOf, pulses}
 use Rattle.ends.specs.Ends.{Accepted, Course, ended, productGain, Adds}
 use Rattle.ends.proofs.Fields.{ProductFields, product-fields}
 use Rattle.ends.proofs.Passing.{adds-like}

@@ -1,5 +1,4 @@
 -- The places of a product: for each bit i of A a row of bits j of B, as long as i + j lies in P.
--- Assumes nothing.
 use Prim.Native.Nat.{ℕ, zero, suc, _+_, _-_, _^_, _≤_, _<_, min, max}
 use mathlib.Core.Path.{_≡_, refl, sym, ap₂, _∙_}
 use mathlib.Core.Bool.{Bool, true, false, _&&_, _||_}
@@ -13,11 +12,11 @@ use borrow.Author.Tests.{lt-ltb, le-ltb, ltb-true}
 use Rattle.laws.specs.Bits.{bit, pick}
 use Rattle.laws.proofs.Digits.{Bit, off, on}
 use Rattle.laws.proofs.Bits.{digit-at, or-bit}
-use Rattle.plans.specs.declared.Job.{Job}
-use Rattle.plans.specs.declared.Held.the-variants.{Holds}
-use Rattle.plans.specs.Fields.{product, kindOf, badScaledAdd, badProduct, badUsed, unusedZero}
-use Rattle.plans.specs.Places.{inTable, badHeld, moved, nextAbove, nextWithin, next}
-use Rattle.plans.specs.Commands.{command, bitOf}
+use Rattle.job_plans.specs.declared.Job.{Job}
+use Rattle.job_plans.specs.declared.Held.the-variants.{Holds}
+use Rattle.job_plans.specs.Fields.{product, kindOf, badScaledAdd, badProduct, badUsed, unusedZero}
+use Rattle.job_plans.specs.Places.{inTable, badHeld, moved, nextAbove, nextWithin, next}
+use Rattle.job_plans.specs.Commands.{command, bitOf}
 use Rattle.ends.proofs.Agreeing.{agrees, agrees-two, one-here}
 use Rattle.ends.proofs.Fields.{ProductFields, product-fields}
 use Rattle.ends.proofs.Visits.{Stop, start, Good, Route}

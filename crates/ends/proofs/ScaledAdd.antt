@@ -1,15 +1,14 @@
 -- Scaled add: "P becomes P+c·A", after 2·min(a,p) pulses.
--- Assumes nothing.
 use Prim.Native.Nat.{ℕ, zero, suc, _+_, _*_, _%_, _^_, _<_, min}
 use mathlib.Core.Path.{_≡_, refl, _∙_}
 use mathlib.Core.Bool.{false}
 use native.Mathlib.Omega.{arith}
 use Rattle.machine.specs.Machine.{Machine}
-use Rattle.plans.specs.declared.Job.{Job}
-use Rattle.plans.specs.declared.Held.the-variants.{Holds}
-use Rattle.plans.specs.Fields.{scaledAdd, kindOf, badScaledAdd, badUsed}
-use Rattle.plans.specs.Places.{first, firstFor, moved}
-use Rattle.tally.specs.Totals.{valueOf, pulses}
+use Rattle.job_plans.specs.declared.Job.{Job}
+use Rattle.job_plans.specs.declared.Held.the-variants.{Holds}
+use Rattle.job_plans.specs.Fields.{scaledAdd, kindOf, badScaledAdd, badUsed}
+use Rattle.job_plans.specs.Places.{first, firstFor, moved}
+use Rattle.job_tally.specs.Totals.{valueOf, pulses}
 use Rattle.ends.specs.Ends.{Accepted, Course, ended, scaledGain, Adds}
 use Rattle.ends.proofs.Fields.{AddFields, add-fields}
 use Rattle.ends.proofs.Passing.{adds-like}

@@ -1,5 +1,4 @@
 -- The places of a scaled add: one for each bit of A below P's width.
--- Assumes nothing.
 use Prim.Native.Nat.{ℕ, zero, suc, _+_, _*_, _%_, _^_, _≤_, _<_, min}
 use mathlib.Core.Path.{_≡_, refl, ap, _∙_}
 use mathlib.Core.Bool.{Bool, true, false, _&&_, _||_}
@@ -12,11 +11,11 @@ use lib.ListN.{length}
 use lib.Pow.{pow-pos}
 use borrow.Author.Tests.{lt-ltb, le-ltb, ltb-true}
 use Rattle.laws.specs.Bits.{bit, pick}
-use Rattle.plans.specs.declared.Job.{Job}
-use Rattle.plans.specs.declared.Held.the-variants.{Nothing, Holds}
-use Rattle.plans.specs.Fields.{scaledAdd, kindOf, isZero, badScaledAdd, badUsed, unusedZero}
-use Rattle.plans.specs.Places.{inTable, badHeld, moved, nextAbove, next}
-use Rattle.plans.specs.Commands.{command, bitOf}
+use Rattle.job_plans.specs.declared.Job.{Job}
+use Rattle.job_plans.specs.declared.Held.the-variants.{Nothing, Holds}
+use Rattle.job_plans.specs.Fields.{scaledAdd, kindOf, isZero, badScaledAdd, badUsed, unusedZero}
+use Rattle.job_plans.specs.Places.{inTable, badHeld, moved, nextAbove, next}
+use Rattle.job_plans.specs.Commands.{command, bitOf}
 use Rattle.ends.proofs.Agreeing.{agrees-one, one-here}
 use Rattle.ends.proofs.Fields.{AddFields, add-fields}
 use Rattle.ends.proofs.Visits.{Stop, start, Good, Route}

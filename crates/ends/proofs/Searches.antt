@@ -1,5 +1,4 @@
 -- A job's search on the whole machine, and the count that its pulse answers.
--- Assumes nothing.
 use Prim.Native.Nat.{ℕ, zero, suc, _<_}
 use mathlib.Core.Path.{_≡_, refl, sym, ap, _∙_}
 use mathlib.Core.Bool.{Bool, true, false, _&&_}
@@ -12,8 +11,8 @@ use Rattle.laws.proofs.Lists.{zip-kept}
 use Rattle.machine.specs.Machine.{Machine, responseBits, selected}
 use Rattle.machine.specs.Pulse.{counts, countOf, pulsed}
 use Rattle.machine.proofs.Checks.{Sound}
-use Rattle.plans.specs.declared.Command.{Command}
-use Rattle.plans.specs.Commands.{look}
+use Rattle.job_plans.specs.declared.Command.{Command}
+use Rattle.job_plans.specs.Commands.{look}
 use Rattle.ends.specs.Ends.{word, response, SameSize}
 use Rattle.ends.proofs.Agreeing.{agrees}
 use Rattle.ends.proofs.Looking.{look-matches, look-word, look-target, look-others}

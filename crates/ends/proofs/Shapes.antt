@@ -1,5 +1,4 @@
 -- The syllables that the commands of jobs make: one of the whole word where SDR is 0, and a cut above P where SDR is P's top bit.
--- Assumes nothing.
 use Prim.Native.Nat.{ℕ, zero, suc, _+_, _-_, _^_, _≤_, _<_}
 use mathlib.Core.Path.{_≡_, refl, ap}
 use mathlib.Core.Bool.{or-true}

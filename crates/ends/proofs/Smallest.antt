@@ -1,6 +1,5 @@
 -- Smallest of A: X marks the selected words with the smallest value, after 1 + a pulses and one for each 0 of that value.
 -- The smallest is the greatest of the values' complements within A's width.
--- Assumes nothing.
 use Prim.Native.Nat.{ℕ, _+_, _-_, _^_, _≤_, _<_}
 use mathlib.Core.Path.{_≡_, refl, sym, ap, ap₂, _∙_}
 use mathlib.Core.Bool.{Bool, true, false, _&&_}
@@ -14,11 +13,11 @@ use Rattle.laws.specs.Bits.{bit, digit}
 use Rattle.laws.proofs.Digits.{Bit, off, on}
 use Rattle.laws.proofs.Bits.{digit-at, not-bit, bit-none}
 use Rattle.machine.specs.Machine.{Machine}
-use Rattle.plans.specs.declared.Job.{Job}
-use Rattle.plans.specs.Fields.{smallest, kindOf, badExtreme, badUsed}
-use Rattle.plans.specs.Places.{first}
-use Rattle.plans.specs.Commands.{bitOf}
-use Rattle.tally.specs.Totals.{ones, zeros, valueOf, values, smallestOf, pulses}
+use Rattle.job_plans.specs.declared.Job.{Job}
+use Rattle.job_plans.specs.Fields.{smallest, kindOf, badExtreme, badUsed}
+use Rattle.job_plans.specs.Places.{first}
+use Rattle.job_plans.specs.Commands.{bitOf}
+use Rattle.job_tally.specs.Totals.{ones, zeros, valueOf, values, smallestOf, pulses}
 use Rattle.ends.specs.Ends.{Accepted, word, chosen, Course, ended, Marks}
 use Rattle.ends.proofs.Agreeing.{agrees, agrees-one}
 use Rattle.ends.proofs.Parts.{value-lt, value-bit}

@@ -1,5 +1,4 @@
 -- What an accepted start shows, and a run of the stated length as the job's whole course.
--- Assumes nothing.
 use mathlib.Core.Path.{_≡_, refl, ap}
 use mathlib.Core.Bool.{Bool, true, false, _||_}
 use Rattle.machine.specs.declared.Check.{Check}
@@ -8,14 +7,14 @@ use Rattle.machine.specs.declared.Refusal.the-variants.{Unfit}
 use Rattle.machine.specs.Machine.{Machine}
 use Rattle.machine.specs.Refusals.{_else_, refuse, machineCheck, answerBy}
 use Rattle.machine.proofs.Checks.{Sound, sound, else-passed, not-refused}
-use Rattle.plans.specs.declared.Job.{Job}
-use Rattle.plans.specs.declared.Held.{Held}
-use Rattle.plans.specs.declared.Held.the-variants.{Nothing, Holds}
+use Rattle.job_plans.specs.declared.Job.{Job}
+use Rattle.job_plans.specs.declared.Held.{Held}
+use Rattle.job_plans.specs.declared.Held.the-variants.{Nothing, Holds}
 use Rattle.jobs.specs.declared.Started.the-variants as started
-use Rattle.plans.specs.Fields.{badUsed}
-use Rattle.plans.specs.Places.{first}
+use Rattle.job_plans.specs.Fields.{badUsed}
+use Rattle.job_plans.specs.Places.{first}
 use Rattle.jobs.specs.Calls.{isHeld, startCheck, startOf}
-use Rattle.tally.specs.Totals.{pulses}
+use Rattle.job_tally.specs.Totals.{pulses}
 use Rattle.jobs.specs.Runs.{State}
 use Rattle.ends.specs.Ends.{Accepted, begun, Course, ended}
 use Rattle.ends.proofs.Machines.{passes}

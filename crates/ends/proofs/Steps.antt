@@ -1,5 +1,4 @@
 -- Steps one after the other: each accepted, each one command's pulse.
--- Assumes nothing.
 use Prim.Native.Nat.{ℕ, zero, suc, _+_, _<_}
 use mathlib.Core.Path.{_≡_, refl, ap, _∙_}
 use mathlib.Core.Bool.{false}
@@ -12,14 +11,14 @@ use Rattle.machine.specs.Refusals.{answerBy}
 use Rattle.machine.specs.Machine.{Machine}
 use Rattle.machine.specs.Pulse.{countOf, pulsed}
 use Rattle.machine.proofs.Checks.{Sound}
-use Rattle.plans.specs.declared.Job.{Job}
-use Rattle.plans.specs.declared.Held.{Held}
-use Rattle.plans.specs.declared.Held.the-variants.{Nothing, Holds}
-use Rattle.plans.specs.declared.Command.{Command}
+use Rattle.job_plans.specs.declared.Job.{Job}
+use Rattle.job_plans.specs.declared.Held.{Held}
+use Rattle.job_plans.specs.declared.Held.the-variants.{Nothing, Holds}
+use Rattle.job_plans.specs.declared.Command.{Command}
 use Rattle.jobs.specs.declared.Stepped.{Stepped}
 use Rattle.jobs.specs.declared.Stepped.the-variants as answer
-use Rattle.plans.specs.Places.{badHeld, next}
-use Rattle.plans.specs.Commands.{command}
+use Rattle.job_plans.specs.Places.{badHeld, next}
+use Rattle.job_plans.specs.Commands.{command}
 use Rattle.jobs.specs.Calls.{stepCheck, stepOf, machineAfter, afterStep}
 use Rattle.jobs.specs.Runs.{State, heldAfter, stepped, steps}
 use Rattle.ends.specs.Ends.{Gives}

@@ -1,5 +1,4 @@
 -- What the places of an adding job add up to, modulo 2 to P's width.
--- Assumes nothing.
 use Prim.Native.Nat.{ℕ, zero, suc, _+_, _-_, _*_, _/_, _%_, _^_, _<_}
 use mathlib.Core.Path.{_≡_, refl, sym, ap, _∙_}
 use mathlib.Core.Bool.{Bool, true, false}
@@ -10,8 +9,8 @@ use borrow.Author.Tests.{leb-true, leb-false}
 use Rattle.laws.specs.Bits.{bit, digit}
 use Rattle.laws.proofs.Digits.{Bit, off, on}
 use Rattle.laws.proofs.Bits.{digit-at}
-use Rattle.plans.specs.declared.Job.{Job}
-use Rattle.tally.specs.Totals.{valueOf}
+use Rattle.job_plans.specs.declared.Job.{Job}
+use Rattle.job_tally.specs.Totals.{valueOf}
 use Rattle.ends.proofs.Parts.{part, part-none, part-low, part-shorter, value-is}
 use Rattle.ends.proofs.Visits.{total}
 use Rattle.ends.proofs.ScaledPlaces.{ups, lesser}

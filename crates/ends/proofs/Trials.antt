@@ -1,5 +1,4 @@
 -- An extreme at one place: the trial search, and the narrowing of X where it found any.
--- Assumes nothing.
 use Prim.Native.Nat.{ℕ, zero, suc, _^_, _≤_, _<_}
 use mathlib.Core.Path.{_≡_, refl, sym, ap, ap₂, _∙_}
 use mathlib.Core.Bool.{Bool, true, false, _&&_, _||_, and-true}
@@ -11,10 +10,10 @@ use Rattle.laws.specs.Bits.{bit, pick, digit}
 use Rattle.laws.proofs.Bits.{bit-none}
 use Rattle.machine.specs.Machine.{Machine, responseBits, selected}
 use Rattle.machine.proofs.Checks.{Sound}
-use Rattle.plans.specs.declared.Job.{Job}
-use Rattle.plans.specs.declared.Held.the-variants.{Holds}
-use Rattle.plans.specs.Places.{badHeld, moved, nextBelow, next}
-use Rattle.plans.specs.Commands.{command, look, bitOf}
+use Rattle.job_plans.specs.declared.Job.{Job}
+use Rattle.job_plans.specs.declared.Held.the-variants.{Holds}
+use Rattle.job_plans.specs.Places.{badHeld, moved, nextBelow, next}
+use Rattle.job_plans.specs.Commands.{command, look, bitOf}
 use Rattle.ends.specs.Ends.{word, response, chosen, SameSize}
 use Rattle.ends.proofs.Agreeing.{agrees, agrees-none, selected-one}
 use Rattle.ends.proofs.Searches.{search-sound, search-size, search-words, search-target, search-others, search-none, search-some}

@@ -1,5 +1,4 @@
 -- An adding job visits its places in order: at each a trial search and a multiadd, and then it is over.
--- Assumes nothing.
 use Prim.Native.Nat.{ℕ, suc, _+_, _*_, _^_, _<_}
 use mathlib.Core.Path.{_≡_, refl, ap₂, _∙_}
 use mathlib.Core.Bool.{Bool, false}
@@ -9,11 +8,11 @@ use lib.ListN.{length}
 use Rattle.laws.specs.Bits.{bit, digit}
 use Rattle.machine.specs.Machine.{Machine}
 use Rattle.machine.proofs.Checks.{Sound}
-use Rattle.plans.specs.declared.Job.{Job}
-use Rattle.plans.specs.declared.Held.{Held}
-use Rattle.plans.specs.declared.Held.the-variants.{Nothing, Holds}
-use Rattle.plans.specs.Places.{badHeld, moved, next}
-use Rattle.plans.specs.Commands.{command, look, plus}
+use Rattle.job_plans.specs.declared.Job.{Job}
+use Rattle.job_plans.specs.declared.Held.{Held}
+use Rattle.job_plans.specs.declared.Held.the-variants.{Nothing, Holds}
+use Rattle.job_plans.specs.Places.{badHeld, moved, next}
+use Rattle.job_plans.specs.Commands.{command, look, plus}
 use Rattle.ends.specs.Ends.{Outside, Adds}
 use Rattle.ends.proofs.Agreeing.{agrees}
 use Rattle.ends.proofs.Machines.{width-is}

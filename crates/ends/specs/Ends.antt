@@ -1,5 +1,4 @@
 -- Document 01, 'Jobs': the words in which a job's end is told.
--- Assumes nothing.
 use Prim.Native.Nat.{ℕ, _+_, _*_, _%_, _^_, _≤_, _<_}
 use mathlib.Core.Path.{_≡_}
 use mathlib.Core.Bool.{Bool, true, false, _&&_}
@@ -12,15 +11,15 @@ use Rattle.machine.specs.Machine.{Machine, responseBits, selected}
 pub use Rattle.machine.specs.Machine.{response}
 use Rattle.machine.specs.Pulse.{countOf, pulsed}
 use Rattle.machine.specs.Refusals.{machineCheck}
-use Rattle.plans.specs.declared.Span.{Span}
-use Rattle.plans.specs.declared.Job.{Job}
-use Rattle.plans.specs.declared.Held.the-variants.{Nothing, Holds}
+use Rattle.job_plans.specs.declared.Span.{Span}
+use Rattle.job_plans.specs.declared.Job.{Job}
+use Rattle.job_plans.specs.declared.Held.the-variants.{Nothing, Holds}
 use Rattle.jobs.specs.declared.Started.the-variants as started
 use Rattle.jobs.specs.declared.Stepped.the-variants as answer
-use Rattle.plans.specs.Places.{first, next}
-use Rattle.plans.specs.Commands.{command}
+use Rattle.job_plans.specs.Places.{first, next}
+use Rattle.job_plans.specs.Commands.{command}
 use Rattle.jobs.specs.Calls.{startOf, stepOf}
-use Rattle.tally.specs.Totals.{valueOf, pulses}
+use Rattle.job_tally.specs.Totals.{valueOf, pulses}
 use Rattle.jobs.specs.Runs.{State, stepped, steps}
 
 -- word k's content

@@ -1,5 +1,4 @@
 -- What a pulse gave, as numbers: one law for both entry points.
--- Assumes nothing.
 use Prim.Native.Nat.{ℕ}
 use mathlib.Core.Path.{_≡_, ap, _∙_}
 use mathlib.Core.List.{List}

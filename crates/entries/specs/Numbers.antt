@@ -1,5 +1,4 @@
 -- A command and an answer as plain numbers, for callers in other languages.
--- Assumes nothing.
 use Prim.Native.Nat.{ℕ, _+_, _*_}
 use mathlib.Core.Bool.{Bool}
 use lib.Dec.{eqb}

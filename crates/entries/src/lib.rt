@@ -2,6 +2,7 @@
 use machine::Answer;
 use machine::Lines;
 use machine::Panel;
+use machine::Response;
 use machine::WordSlice;
 ghost use mathlib.Core.Path.{_≡_};
 ghost use Prim.Native.Nat.{_<_};
@@ -42,16 +43,16 @@ fn result_of(answer: Answer) -> u64
 #[no_mangle]
 pub extern "C" fn dushvaneth_wide_pulse(
     words: &mut [u64],
-    responses: &mut [u8],
+    responses: &mut [Response],
     width: u32,
     comp: u64,
     sdr: u64,
     sc1: u64,
     sc2: u64,
     mor: u64,
-    key: u8,
-    care: u8,
-    target: u8,
+    key: Response,
+    care: Response,
+    target: Response,
     address: usize,
     lines: u8,
 ) -> u64
@@ -76,16 +77,16 @@ pub extern "C" fn dushvaneth_wide_pulse(
 #[no_mangle]
 pub extern "C" fn dushvaneth_cells_pulse(
     words: &mut [u64],
-    responses: &mut [u8],
+    responses: &mut [Response],
     width: u32,
     comp: u64,
     sdr: u64,
     sc1: u64,
     sc2: u64,
     mor: u64,
-    key: u8,
-    care: u8,
-    target: u8,
+    key: Response,
+    care: Response,
+    target: Response,
     address: usize,
     lines: u8,
 ) -> u64

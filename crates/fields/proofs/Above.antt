@@ -1,6 +1,5 @@
 -- Comparing by syllables is one sum of whole words: q is larger than p where q and the complement of p carry out of the syllable's top.
 -- Document 01, 'One pulse', Search (larger, smaller) and refusal 5. Laws for every width.
--- Assumes nothing.
 use Prim.Native.Nat.{ℕ, zero, suc, _+_, _-_, _*_, _/_, _%_, _^_, _≤_, _<_, min, max}
 use mathlib.Core.Path.{_≡_, refl, sym, ap, ap₂, _∙_}
 use mathlib.Core.List.{List, [], _∷_}

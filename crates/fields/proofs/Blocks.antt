@@ -1,5 +1,4 @@
 -- Numbers taken apart at a field's top: equalities, zeros and the tops' ones, field by field.
--- Assumes nothing.
 use Prim.Native.Nat.{ℕ, suc, _+_, _*_, _/_, _%_, _^_, _<_, min}
 use mathlib.Core.Path.{_≡_, refl, sym, ap, ap₂, _∙_}
 use mathlib.Core.List.{List, _∷_}

@@ -1,6 +1,5 @@
 -- No syllable has two codes, by words: no top at which SC1, SC2 and their difference are all not 0 in its field.
 -- Document 01, refusal 5. A law for every width.
--- Assumes nothing.
 use Prim.Native.Nat.{ℕ, zero, suc, _+_, _*_, _/_, _%_, _^_, _<_}
 use mathlib.Core.Path.{_≡_, refl, ap, ap₂, _∙_}
 use mathlib.Core.List.{List, [], _∷_}

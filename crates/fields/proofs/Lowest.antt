@@ -1,6 +1,5 @@
 -- The lowest one of a number b: a number made of b's bits is below it only where it is 0. So a field is equal to another at the cared bits
 -- exactly where their difference there is below the lowest cared bit, and "exact" becomes a comparison like the other two.
--- Assumes nothing.
 use Prim.Native.Nat.{ℕ, zero, suc, _-_, _/_, _%_, _≤_, _<_, min}
 use mathlib.Core.Path.{_≡_, refl, sym, ap, ap₂, _∙_}
 use mathlib.Core.Logic.{_⊎_, inl, inr, ⊎-elim}

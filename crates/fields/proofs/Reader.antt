@@ -1,6 +1,5 @@
 -- The machine's definitions of search, of refusal 5 and of add are those over fields.
 -- Document 01, 'One pulse', Search and Add; refusal 5. For every width.
--- Assumes nothing.
 use Prim.Native.Nat.{ℕ, zero, suc, _+_, _*_, _/_, _%_, _^_, _<_, min, max}
 use mathlib.Core.Path.{_≡_, refl, sym, ap, ap₂, _∙_}
 use mathlib.Core.Bool.{Bool, true, false, _&&_, _||_}

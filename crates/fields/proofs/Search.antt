@@ -1,6 +1,5 @@
 -- The word-wide search: ten operations on a word of 64 bits say whether all its syllables are satisfied, however many there are.
 -- Document 01, 'One pulse', Search. A law for every width.
--- Assumes nothing.
 use Prim.Native.Nat.{ℕ, _+_, _-_, _/_, _%_, _^_, _≤_, _<_, min}
 use mathlib.Core.Path.{_≡_, refl, sym, ap, _∙_}
 use mathlib.Core.Bool.{true}

@@ -1,6 +1,5 @@
 -- Adding by syllables is one sum of whole words with the tops put right: "no carry crosses a syllable's top".
 -- Document 01, 'One pulse', Add. Laws for every width.
--- Assumes nothing.
 use Prim.Native.Nat.{ℕ, zero, suc, _+_, _-_, _*_, _/_, _%_, _^_, _≤_, _<_, min}
 use mathlib.Core.Path.{_≡_, refl, sym, ap, ap₂, _∙_}
 use mathlib.Core.List.{List, [], _∷_}

@@ -1,6 +1,5 @@
 -- The machine's syllables, as the list of their widths.
 -- Document 01, 'The machine'. For every width.
--- Assumes nothing.
 use Prim.Native.Nat.{ℕ, zero, suc, _+_, _-_, _/_, _%_, _^_}
 use mathlib.Core.Path.{_≡_, refl, ap, ap₂, _∙_}
 use mathlib.Core.Bool.{_||_}

@@ -1,6 +1,5 @@
 -- The word-wide search with all that does not depend on the word worked out beforehand: seven operations and one comparison for each word.
 -- Document 01, 'One pulse', Search. A law for every width.
--- Assumes nothing.
 use Prim.Native.Nat.{ℕ, _+_, _-_, _/_, _%_, _^_, _≤_, _<_, min, max}
 use mathlib.Core.Path.{_≡_, refl, sym, ap, ap₂, _∙_}
 use mathlib.Core.Bool.{true}

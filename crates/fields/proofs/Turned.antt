@@ -1,7 +1,6 @@
 -- Search as one comparison in each syllable: the word is turned so that every syllable asks for less than its limit.
 -- Document 01, 'One pulse', Search. Smaller: the word against COMP. Larger: the complements of both. Exact: the difference against the lowest
 -- cared bit. Laws for every width.
--- Assumes nothing.
 use Prim.Native.Nat.{ℕ, zero, suc, _+_, _-_, _*_, _/_, _%_, _^_, _<_}
 use mathlib.Core.Path.{_≡_, refl, sym, ap, ap₂, _∙_}
 use mathlib.Core.List.{List, [], _∷_}

@@ -1,6 +1,5 @@
 -- Adding by syllables with no mask at the end: the highest bit is a top, so the lower bits of word and addend never carry past it.
 -- Document 01, 'One pulse', Add; "a 64-bit syllable at 2^64-1 plus 1 gives 0". A law for every width.
--- Assumes nothing.
 use Prim.Native.Nat.{ℕ, zero, suc, _+_, _-_, _*_, _%_, _^_, _≤_, _<_}
 use mathlib.Core.Path.{_≡_, sym, ap, _∙_}
 use mathlib.Core.List.{List}

@@ -1,6 +1,5 @@
 -- Search and refusal 5 over fields, by the numbers that SC1 (a), SC2 (b), the word (w) and COMP (c) make in each.
 -- Document 01, 'One pulse', Search; proofs/Reader ties it to the machine's definitions.
--- Assumes nothing.
 use Prim.Native.Nat.{ℕ, zero, suc, _/_, _%_, _^_}
 use mathlib.Core.List.{List, [], _∷_}
 use mathlib.Core.Bool.{Bool, true, _&&_, _||_}

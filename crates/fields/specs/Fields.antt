@@ -1,6 +1,5 @@
 -- The syllables of a word as the list of their widths, and whole-word arithmetic over them: the form in which laws for every width are proved.
 -- Document 01, 'The machine' and 'One pulse', Add; proofs/Reader ties it to the machine's definitions.
--- Assumes nothing.
 use Prim.Native.Nat.{ℕ, zero, suc, _+_, _*_, _/_, _%_, _^_}
 use mathlib.Core.List.{List, [], _∷_}
 use lib.Dec.{ltb}

@@ -1,5 +1,4 @@
 -- A width, and the top bits of its syllables: SDR's ones and bit N-1.
--- Assumes nothing.
 use Prim.Native.Nat.{ℕ, _-_, _/_, _%_, _^_, _≤_, _<_}
 use mathlib.Core.Path.{_≡_}
 use lib.Bits.{bitOr}

@@ -1,5 +1,4 @@
 -- What a whole round answers and leaves: turned down, or not.
--- Assumes nothing.
 use Prim.Native.Nat.{ℕ}
 use mathlib.Core.Path.{_≡_, sym, ap, _∙_}
 use mathlib.Core.List.{List}

@@ -1,6 +1,5 @@
 -- Document 01, 'The hand-out round': the end that a whole round's contract states is reached by accepted answers, one for each responder,
 -- the lowest first, each with its verdict in the list. So all that holds of accepted answers (Handout) holds of a whole round.
--- Assumes nothing.
 use Prim.Native.Nat.{ℕ, _+_}
 use mathlib.Core.Path.{_≡_, refl, sym, ap, _∙_}
 use mathlib.Core.Bool.{Bool}

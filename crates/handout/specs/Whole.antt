@@ -1,5 +1,4 @@
 -- Document 01, 'The hand-out round': a whole round, worked by the host from a list of verdicts.
--- Assumes nothing.
 use Prim.Native.Nat.{ℕ, suc, _+_}
 use mathlib.Core.Bool.{Bool, true, false, not, _&&_}
 use mathlib.Core.List.{List, [], _∷_}

@@ -1,5 +1,4 @@
 -- Digits are below 2, whichever of two is picked.
--- Assumes nothing.
 use Prim.Native.Nat.{ℕ, _-_, _<_}
 use mathlib.Core.Bool.{Bool, true, false}
 use native.Mathlib.Omega.{arith}

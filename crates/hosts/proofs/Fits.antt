@@ -1,5 +1,4 @@
 -- A machine that passes 1 to 3 passes them after any accepted pulse: no word outgrows the width.
--- Assumes nothing.
 use Prim.Native.Nat.{ℕ, _+_, _*_, _%_, _^_, _≤_, _<_, max}
 use mathlib.Core.Path.{_≡_}
 use mathlib.Core.Bool.{Bool, true, false, _&&_, _||_}

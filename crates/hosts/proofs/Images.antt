@@ -1,6 +1,5 @@
 -- What a host has stored is the machine's image, and what it resumes from that image is the machine.
 -- Document 01, 'The image': "the machine an image stands for is width, words, responses and job".
--- Assumes nothing.
 use Prim.Native.Nat.{ℕ, _≤_, _+_}
 use mathlib.Core.Path.{_≡_, refl, sym, ap, ap₂, _∙_}
 use mathlib.Core.Bool.{false, _||_}
@@ -16,16 +15,16 @@ use Rattle.machine.specs.declared.Refusal.the-variants.{Unfit, NoRoom}
 use Rattle.machine.specs.Machine.{machine}
 use Rattle.machine.specs.Refusals.{_else_, refuse, machineCheck, answerBy, changeBy}
 use Rattle.machine.proofs.Checks.{else-passed, not-refused, or-left, or-right}
-use Rattle.plans.specs.declared.Held.{Held}
+use Rattle.job_plans.specs.declared.Held.{Held}
 use Rattle.jobs.specs.Runs.{State}
 use Rattle.image.specs.declared.Wrote.{Wrote}
 use Rattle.image.specs.declared.Wrote.the-variants as wrote
 use Rattle.image.specs.declared.Read.{Read}
 use Rattle.image.specs.declared.Read.the-variants as read
-use Rattle.layout.specs.Format.{imageOf}
-use Rattle.layout.specs.Reading.{wordsIn, scanned, stateIn}
+use Rattle.image_layout.specs.Format.{imageOf}
+use Rattle.image_layout.specs.Reading.{wordsIn, scanned, stateIn}
 use Rattle.image.specs.Calls.{badJob, writeCheck, writeOf, written, refuseBytes, readCheck, readOf, wordsRead, responsesRead}
-use Rattle.layout.proofs.Bytes.{length-numbers}
+use Rattle.image_layout.proofs.Bytes.{length-numbers}
 use Rattle.image.proofs.RoundTrip.{plain, roundTrip}
 use Rattle.image.specs.Calls.{Stored}
 use Rattle.hosts.specs.Images.{Stores, Resumes}

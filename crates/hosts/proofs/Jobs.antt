@@ -1,6 +1,5 @@
 -- A job over stops: whatever is stored, stopped and resumed, what stands is what the job's steps alone would have left.
 -- Document 01, 'Jobs' and 'The image'. The theorem: `survives`.
--- Assumes nothing.
 use Prim.Native.Nat.{ℕ, zero, suc, _-_, _≤_, _<_}
 use mathlib.Core.Path.{_≡_, refl, sym, ap, _∙_}
 use mathlib.Core.Bool.{false}
@@ -15,20 +14,20 @@ use Rattle.machine.specs.declared.Refusal.the-variants.{Unfit}
 use Rattle.machine.specs.Machine.{Machine}
 use Rattle.machine.specs.Refusals.{machineCheck, answerBy}
 use Rattle.machine.proofs.Checks.{sound, else-passed, not-refused}
-use Rattle.plans.specs.declared.Job.{Job}
-use Rattle.plans.specs.declared.Held.{Held}
-use Rattle.plans.specs.declared.Held.the-variants.{Nothing, Holds}
-use Rattle.plans.specs.declared.Command.{Command}
+use Rattle.job_plans.specs.declared.Job.{Job}
+use Rattle.job_plans.specs.declared.Held.{Held}
+use Rattle.job_plans.specs.declared.Held.the-variants.{Nothing, Holds}
+use Rattle.job_plans.specs.declared.Command.{Command}
 use Rattle.jobs.specs.declared.Stepped.the-variants as answer
-use Rattle.plans.specs.Places.{first}
+use Rattle.job_plans.specs.Places.{first}
 use Rattle.jobs.specs.Calls.{badStep, stepCheck, gave, stepOf}
-use Rattle.tally.specs.Totals.{pulses}
+use Rattle.job_tally.specs.Totals.{pulses}
 use Rattle.jobs.specs.Runs.{State, stepped, steps}
 use Rattle.ends.specs.Ends.{Accepted, begun, Gives, ended}
 use Rattle.ends.proofs.Steps.{given-passed, steps-on, steps-last}
 use Rattle.ends.proofs.Machines.{words-length}
 use Rattle.ends.proofs.Ends.{course, not-over, stays-over}
-use Rattle.layout.specs.Format.{imageOf}
+use Rattle.image_layout.specs.Format.{imageOf}
 use Rattle.image.specs.Calls.{badJob}
 use Rattle.image.specs.Calls.{Stored}
 use Rattle.hosts.specs.Images.{Stores, Resumes}

@@ -1,5 +1,4 @@
 -- Calls that are none of a round's: what they keep, and which of them leave X and F as they are.
--- Assumes nothing.
 use Prim.Native.Nat.{ℕ, _+_, _-_, _<_}
 use mathlib.Core.Path.{_≡_, refl, sym, ap, _∙_}
 use mathlib.Core.Bool.{Bool, true, false, not, _&&_, _||_}
@@ -19,15 +18,15 @@ use Rattle.machine.specs.Search.{matches, marked}
 use Rattle.machine.specs.Pulse.{flipped, responseAfter, pulsed}
 use Rattle.machine.specs.Refusals.{machineCheck, pulseCheck, changeBy, after, answerBy}
 use Rattle.machine.proofs.Checks.{sound, clean, else-passed, not-refused, or-right}
-use Rattle.plans.specs.declared.Held.{Held}
-use Rattle.plans.specs.declared.Held.the-variants.{Holds}
-use Rattle.plans.specs.declared.Command.{Command}
+use Rattle.job_plans.specs.declared.Held.{Held}
+use Rattle.job_plans.specs.declared.Held.the-variants.{Holds}
+use Rattle.job_plans.specs.declared.Command.{Command}
 use Rattle.jobs.specs.declared.Stepped.{Stepped}
 use Rattle.jobs.specs.declared.Stepped.the-variants as answer
-use Rattle.plans.specs.declared.Job.{Job}
-use Rattle.plans.specs.Fields.{Kind, greatest, smallest, scaledAdd, product, unknown, kindOf, badUsed, unusedZero}
-use Rattle.plans.specs.Places.{atPlace, inTableFor, inTable, badHeld}
-use Rattle.plans.specs.Commands.{look, opening, trial, second, command}
+use Rattle.job_plans.specs.declared.Job.{Job}
+use Rattle.job_plans.specs.Fields.{Kind, greatest, smallest, scaledAdd, product, unknown, kindOf, badUsed, unusedZero}
+use Rattle.job_plans.specs.Places.{atPlace, inTableFor, inTable, badHeld}
+use Rattle.job_plans.specs.Commands.{look, opening, trial, second, command}
 use Rattle.jobs.specs.Calls.{stepCheck, gave, stepOf, machineAfter, afterStep}
 use Rattle.jobs.specs.Runs.{State, stepped}
 use Rattle.ends.proofs.Machines.{passes, same, response-at, responses-length}

@@ -1,5 +1,4 @@
 -- A round over stops: the next responder is shown, none is skipped, and each stop repeats at most one. Document 01, 'The hand-out round'.
--- Assumes nothing.
 use Prim.Native.Nat.{ℕ, suc, _+_, _≤_, _<_}
 use mathlib.Core.Path.{_≡_, refl, sym, ap, ap₂, _∙_}
 use mathlib.Core.Logic.{_⊎_, inl, inr, ⊎-elim}
@@ -31,7 +30,7 @@ use Rattle.rounds.specs.Round.{Fit}
 use Rattle.rounds.proofs.Responders.{first-of-rest}
 use Rattle.rounds.proofs.Handout.{HandedOut, handed-out}
 use Rattle.jobs.specs.Runs.{State}
-use Rattle.layout.specs.Format.{imageOf}
+use Rattle.image_layout.specs.Format.{imageOf}
 use Rattle.hosts.specs.Images.{Stores, Resumes}
 use Rattle.hosts.specs.Rounds as events
 use Rattle.hosts.specs.Rounds.{Responder, lower, Phase, ready, showing, answered, pending, settled, Entry, Hosted, Again, Orderly, Shown}

@@ -1,6 +1,5 @@
 -- A round looks at X and F alone: of a machine, what is left if every response keeps only these two bits, beside the words the round began with.
 -- An answer does to it what it does to the machine, and a call that leaves X and F alone leaves it as it is.
--- Assumes nothing.
 use Prim.Native.Nat.{ℕ, zero, suc, _<_}
 use mathlib.Core.Path.{_≡_, refl, sym, ap, ap₂, _∙_}
 use mathlib.Core.Bool.{Bool, true, false, _||_}

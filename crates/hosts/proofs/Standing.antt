@@ -1,7 +1,6 @@
 -- A round over stops: what stands after any events. Document 01, 'The hand-out round'.
 -- The argument: the machine's X and F bits are those that the stored answers, and the one not stored, make of the first image's, and the last stored
 -- image has those of the stored answers.
--- Assumes nothing.
 use Prim.Native.Nat.{ℕ, zero, suc, _<_}
 use mathlib.Core.Path.{_≡_, refl, sym, ap, _∙_}
 use mathlib.Core.Bool.{false}
@@ -31,8 +30,8 @@ use Rattle.rounds.proofs.Passing.{bits-fit}
 use Rattle.rounds.specs.Round.{Fit}
 use Rattle.rounds.proofs.Handout.{refused-nothing}
 use Rattle.jobs.specs.Runs.{State}
-use Rattle.layout.specs.Format.{imageOf}
-use Rattle.layout.specs.Format.{AreBytes}
+use Rattle.image_layout.specs.Format.{imageOf}
+use Rattle.image_layout.specs.Format.{AreBytes}
 use Rattle.image.specs.Calls.{Stored}
 use Rattle.hosts.specs.Images.{Stores, Resumes}
 use Rattle.hosts.specs.Rounds as events

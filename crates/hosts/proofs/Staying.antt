@@ -1,6 +1,5 @@
 -- A held job that is in order stays so after each step, whatever the count: so what stands after any accepted calls can be stored.
 -- Document 01, number 8: "a job kind or place not in the table; .. after the start, an unused field not 0".
--- Assumes nothing.
 use Prim.Native.Nat.{ℕ, zero, suc, _+_, _^_, _<_}
 use mathlib.Core.Path.{_≡_, refl, sym, ap, _∙_}
 use mathlib.Core.Bool.{Bool, true, false, not, _&&_, _||_}
@@ -10,19 +9,19 @@ use borrow.Author.Tests.{eqb-true, ltb-true, lt-ltb}
 use Rattle.laws.specs.Bits.{pick}
 use Rattle.laws.proofs.Bits.{and-left, and-right}
 use Rattle.machine.specs.Refusals.{answerBy}
-use Rattle.plans.specs.declared.Job.{Job}
-use Rattle.plans.specs.declared.Held.{Held}
-use Rattle.plans.specs.declared.Held.the-variants.{Nothing, Holds}
-use Rattle.plans.specs.Fields.{Kind, greatest, smallest, scaledAdd, product, unknown, kindOf, badExtreme, badScaledAdd, badProduct, badUsedFor, badUsed, isZero, unusedZeroFor, unusedZero}
-use Rattle.plans.specs.Places.{atPlace, inTableFor, inTable, badHeld, moved, nextBelow, nextAbove, nextWithin, afterTrial, afterSecond, next}
-use Rattle.plans.proofs.Fair.{Fair, fair}
+use Rattle.job_plans.specs.declared.Job.{Job}
+use Rattle.job_plans.specs.declared.Held.{Held}
+use Rattle.job_plans.specs.declared.Held.the-variants.{Nothing, Holds}
+use Rattle.job_plans.specs.Fields.{Kind, greatest, smallest, scaledAdd, product, unknown, kindOf, badExtreme, badScaledAdd, badProduct, badUsedFor, badUsed, isZero, unusedZeroFor, unusedZero}
+use Rattle.job_plans.specs.Places.{atPlace, inTableFor, inTable, badHeld, moved, nextBelow, nextAbove, nextWithin, afterTrial, afterSecond, next}
+use Rattle.job_plans.proofs.Fair.{Fair, fair}
 use Rattle.machine.specs.declared.Panel.{Panel}
 use Rattle.machine.specs.declared.Lines.{Lines}
 use Rattle.machine.specs.declared.Check.{Check}
 use Rattle.machine.specs.declared.Check.the-variants as check
 use Rattle.machine.specs.Machine.{Machine}
 use Rattle.machine.specs.Pulse.{pulsed}
-use Rattle.plans.specs.declared.Command.{Command}
+use Rattle.job_plans.specs.declared.Command.{Command}
 use Rattle.jobs.specs.declared.Started.the-variants as started
 use Rattle.jobs.specs.declared.Stepped.the-variants as answer
 use Rattle.jobs.specs.Calls.{startOf, stepCheck, gave, stepOf}
@@ -30,7 +29,7 @@ use Rattle.jobs.specs.Runs.{State, heldAfter, stepped, steps}
 use Rattle.ends.specs.Ends.{Accepted}
 use Rattle.ends.proofs.Starts.{accepted-is}
 use Rattle.image.specs.Calls.{badJob}
-use Rattle.layout.specs.Format.{AreBytes}
+use Rattle.image_layout.specs.Format.{AreBytes}
 use Rattle.hosts.specs.Rounds as events
 use Rattle.hosts.specs.Rounds.{Other}
 use Rattle.hosts.specs.Images.{Typed}

@@ -1,5 +1,4 @@
 -- A pulse leaves bytes in the responses, and a job's c stays what it is: what the types say holds after any calls.
--- Assumes nothing.
 use Prim.Native.Nat.{ℕ, zero, suc, _+_, _^_, _<_}
 use mathlib.Core.Bool.{Bool, true, false, _&&_}
 use mathlib.Core.List.{List, [], _∷_}
@@ -14,17 +13,17 @@ use Rattle.machine.specs.Machine.{Machine, responseBits, selected}
 use Rattle.machine.specs.Search.{matches, marked}
 use Rattle.machine.specs.Pulse.{flipped, responseAfter, pulsed}
 use Rattle.machine.specs.Refusals.{answerBy}
-use Rattle.plans.specs.declared.Job.{Job}
-use Rattle.plans.specs.declared.Held.{Held}
-use Rattle.plans.specs.declared.Held.the-variants.{Nothing, Holds}
-use Rattle.plans.specs.Fields.{Kind, greatest, smallest, scaledAdd, product, unknown, kindOf}
-use Rattle.plans.specs.Places.{firstFor, first, moved, nextBelow, nextAbove, nextWithin, afterTrial, afterSecond, next}
+use Rattle.job_plans.specs.declared.Job.{Job}
+use Rattle.job_plans.specs.declared.Held.{Held}
+use Rattle.job_plans.specs.declared.Held.the-variants.{Nothing, Holds}
+use Rattle.job_plans.specs.Fields.{Kind, greatest, smallest, scaledAdd, product, unknown, kindOf}
+use Rattle.job_plans.specs.Places.{firstFor, first, moved, nextBelow, nextAbove, nextWithin, afterTrial, afterSecond, next}
 use Rattle.jobs.specs.declared.Stepped.the-variants as answer
 use Rattle.jobs.specs.Calls.{stepCheck, gave, stepOf, machineAfter, afterStep}
 use Rattle.jobs.specs.Runs.{State, heldAfter, stepped}
 use Rattle.machine.specs.declared.Check.{Check}
 use Rattle.machine.specs.declared.Check.the-variants as check
-use Rattle.layout.specs.Format.{AreBytes}
+use Rattle.image_layout.specs.Format.{AreBytes}
 use Rattle.image.specs.Calls.{ConstantFits}
 use Rattle.hosts.specs.Images.{Typed}
 use Rattle.hosts.proofs.Below.{bit-below, digit-below, flip-below, either-below}

@@ -1,12 +1,11 @@
 -- Document 01, 'The image': storing and resuming, as a host does them by the calls `write` and `read`.
--- Assumes nothing.
-use Rattle.layout.specs.Format.{AreBytes}
+use Rattle.image_layout.specs.Format.{AreBytes}
 use Prim.Native.Nat.{ℕ}
 use mathlib.Core.Path.{_≡_}
 use mathlib.Core.List.{List}
 use lib.ListN.{length, take}
 use Rattle.machine.specs.Machine.{machine}
-use Rattle.plans.specs.declared.Held.{Held}
+use Rattle.job_plans.specs.declared.Held.{Held}
 use Rattle.jobs.specs.Runs.{State}
 use Rattle.image.specs.declared.Wrote.the-variants as wrote
 use Rattle.image.specs.declared.Read.the-variants as read

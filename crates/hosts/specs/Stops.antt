@@ -1,10 +1,9 @@
 -- Document 01, 'Jobs' and 'The image': a job worked by steps, with images stored and stops in between.
--- Assumes nothing.
 use Prim.Native.Nat.{ℕ, suc}
 use mathlib.Core.Path.{_≡_}
 use mathlib.Core.List.{List, [], _∷_}
-use Rattle.plans.specs.declared.Held.{Held}
-use Rattle.plans.specs.declared.Command.{Command}
+use Rattle.job_plans.specs.declared.Held.{Held}
+use Rattle.job_plans.specs.declared.Command.{Command}
 use Rattle.jobs.specs.declared.Stepped.the-variants as answer
 use Rattle.jobs.specs.Calls.{stepOf}
 use Rattle.jobs.specs.Runs.{State, stepped}

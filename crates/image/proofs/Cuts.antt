@@ -1,6 +1,5 @@
 -- Places: every place is within the bytes, and a proper prefix of sound bytes is refused at the field that is cut.
 -- "The place in 9 is the offset of the first field, read in order, that is cut off or breaks a rule"
--- Assumes nothing.
 use Prim.Native.Nat.{ℕ, zero, suc, _+_, _*_, _-_, _≤_, _<_}
 use mathlib.Core.Path.{_≡_, refl, sym, ap, _∙_}
 use mathlib.Core.Bool.{Bool, true, false}
@@ -12,14 +11,14 @@ use lib.ListN.{length, take, drop, replicate, length-drop}
 use lib.Seq.{take-take, getD-take, length-take-le}
 use borrow.Author.Tests.{lt-ltb, le-ltb, ltb-true, ltb-false, eqb-true}
 use Rattle.laws.specs.Bits.{pick}
-use Rattle.layout.specs.declared.Scanned.the-variants.{Sound, Broken}
+use Rattle.image_layout.specs.declared.Scanned.the-variants.{Sound, Broken}
 use Rattle.jobs.specs.Runs.{State}
-use Rattle.layout.specs.Format.{value, imageOf}
-use Rattle.layout.specs.Reading.{Field, scan, countIs, wordCount, widthByte, wordField, responseField, jobCount, jobField, widthIn, wordsIn, jobsIn, fieldsOf, scanned}
-use Rattle.layout.proofs.Bytes.{drop-take}
+use Rattle.image_layout.specs.Format.{value, imageOf}
+use Rattle.image_layout.specs.Reading.{Field, scan, countIs, wordCount, widthByte, wordField, responseField, jobCount, jobField, widthIn, wordsIn, jobsIn, fieldsOf, scanned}
+use Rattle.image_layout.proofs.Bytes.{drop-take}
 use Rattle.image.proofs.RoundTrip.{image-sound}
 use Rattle.image.specs.Calls.{Stored}
-use Rattle.layout.specs.Reading.{startOf}
+use Rattle.image_layout.specs.Reading.{startOf}
 
 -- ---- every place is within the bytes
 

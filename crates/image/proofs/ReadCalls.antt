@@ -1,5 +1,4 @@
 -- Reading as a whole: its checks in order, and what sound bytes leave.
--- Assumes nothing.
 use Prim.Native.Nat.{ℕ, _+_, _*_, _≤_}
 use mathlib.Core.Path.{_≡_, refl, sym, _∙_}
 use mathlib.Core.Bool.{true, false, _||_}
@@ -14,16 +13,16 @@ use Rattle.machine.specs.declared.Refusal.the-variants.{Malformed, NoRoom}
 use Rattle.machine.specs.declared.Check.{Check}
 use Rattle.machine.specs.declared.Check.the-variants.{Passed, Refused}
 use Rattle.machine.proofs.Checks.{else-passed, not-refused, or-left, or-right}
-use Rattle.plans.specs.declared.Held.{Held}
-use Rattle.plans.specs.declared.Held.the-variants.{Nothing, Holds}
-use Rattle.layout.specs.declared.Scanned.{Scanned}
-use Rattle.layout.specs.declared.Scanned.the-variants.{Sound, Broken}
+use Rattle.job_plans.specs.declared.Held.{Held}
+use Rattle.job_plans.specs.declared.Held.the-variants.{Nothing, Holds}
+use Rattle.image_layout.specs.declared.Scanned.{Scanned}
+use Rattle.image_layout.specs.declared.Scanned.the-variants.{Sound, Broken}
 use Rattle.image.specs.declared.Read.the-variants as read
-use Rattle.layout.specs.Format.{value, jobOf}
-use Rattle.layout.specs.Reading.{scanned, stateIn, widthIn, wordsIn, heldIn, numbers}
+use Rattle.image_layout.specs.Format.{value, jobOf}
+use Rattle.image_layout.specs.Reading.{scanned, stateIn, widthIn, wordsIn, heldIn, numbers}
 use Rattle.image.specs.Calls.{refuseBytes, readCheck, readOf, wordsRead, responsesRead}
-use Rattle.layout.proofs.Bytes.{length-numbers}
-use Rattle.parts.proofs.Scans.{Long, long}
+use Rattle.image_layout.proofs.Bytes.{length-numbers}
+use Rattle.image_parts.proofs.Scans.{Long, long}
 
 -- ---- the checks
 

@@ -1,6 +1,5 @@
 -- Theorem: the image of a machine is sound, and reads as that machine. So two machines with one image are one machine.
 -- Document 01, 'The image': "the machine an image stands for is width, words, responses and job".
--- Assumes nothing.
 use Prim.Native.Nat.{ℕ, zero, suc, _+_, _*_, _%_, _^_, _≤_, _<_}
 use mathlib.Core.Path.{_≡_, refl, sym, ap, ap₂, _∙_}
 use mathlib.Core.Bool.{true, false, not, _||_}
@@ -14,20 +13,20 @@ use borrow.Author.Tests.{le-leb, eq-eqb, ltb-false, eqb-false}
 use Rattle.laws.specs.Bits.{pick}
 use Rattle.machine.specs.Refusals.{badSize, badWidth}
 use Rattle.machine.proofs.Checks as checks
-use Rattle.plans.specs.declared.Job.{Job}
-use Rattle.plans.specs.declared.Held.{Held}
-use Rattle.plans.specs.declared.Held.the-variants.{Nothing, Holds}
-use Rattle.plans.specs.Places.{badHeld}
+use Rattle.job_plans.specs.declared.Job.{Job}
+use Rattle.job_plans.specs.declared.Held.{Held}
+use Rattle.job_plans.specs.declared.Held.the-variants.{Nothing, Holds}
+use Rattle.job_plans.specs.Places.{badHeld}
 use Rattle.jobs.specs.Runs.{State}
-use Rattle.layout.specs.declared.Scanned.the-variants.{Sound}
-use Rattle.layout.specs.Format.{bytes, value, items, section, jobBytes, jobOf, heldJobs, imageOf}
-use Rattle.layout.specs.Reading.{Field, scan, countIs, wordCount, widthByte, wordField, responseField, jobCount, jobField, widthIn, wordsIn, jobsAt, jobsIn, heldIn, fieldsOf, scanned, numbers, stateIn}
+use Rattle.image_layout.specs.declared.Scanned.the-variants.{Sound}
+use Rattle.image_layout.specs.Format.{bytes, value, items, section, jobBytes, jobOf, heldJobs, imageOf}
+use Rattle.image_layout.specs.Reading.{Field, scan, countIs, wordCount, widthByte, wordField, responseField, jobCount, jobField, widthIn, wordsIn, jobsAt, jobsIn, heldIn, fieldsOf, scanned, numbers, stateIn}
 use Rattle.image.specs.Calls.{badJob}
-use Rattle.stores.specs.Stored.{machineBytes}
-use Rattle.layout.proofs.Bytes.{under-more, length-bytes, length-items, value-bytes, length-job, job-back}
-use Rattle.layout.specs.Format.{Under, AreBytes}
+use Rattle.image_stores.specs.Stored.{machineBytes}
+use Rattle.image_layout.proofs.Bytes.{under-more, length-bytes, length-items, value-bytes, length-job, job-back}
+use Rattle.image_layout.specs.Format.{Under, AreBytes}
 use Rattle.image.proofs.WriteCalls.{whole, length-machine, same-size}
-use Rattle.layout.proofs.Bytes.{zero-picks, other-picks}
+use Rattle.image_layout.proofs.Bytes.{zero-picks, other-picks}
 use Rattle.image.proofs.Sections.{passed, words-pass, responses-pass, numbers-back, all-fit}
 use Rattle.image.specs.Calls.{ConstantFits, Stored}
 

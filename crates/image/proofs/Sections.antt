@@ -1,5 +1,4 @@
 -- Sections written and sections read: a field that is written right is passed, and bytes that are taken are the bytes of what they say.
--- Assumes nothing.
 use Prim.Native.Nat.{ℕ, zero, suc, _+_, _*_, _^_, _≤_}
 use mathlib.Core.Path.{_≡_, refl, sym, ap, ap₂, _∙_}
 use mathlib.Core.Bool.{Bool, true, false, not}
@@ -15,12 +14,12 @@ use Rattle.laws.specs.Bits.{pick}
 use Rattle.machine.specs.declared.Found.the-variants.{At, Nothing}
 use Rattle.machine.specs.Resolution.{lowest}
 use Rattle.machine.specs.Refusals.{tooWide}
-use Rattle.layout.specs.declared.Scanned.the-variants.{Sound, Broken}
-use Rattle.layout.specs.Format.{bytes, value, items, jobBytes, jobOf}
-use Rattle.layout.specs.Reading.{Field, scan, wordField, responseField, numbers}
-use Rattle.layout.proofs.Bytes.{under-take, under-drop, length-bytes, value-bytes, bytes-value, job-law}
-use Rattle.layout.specs.Format.{Under, AreBytes}
-use Rattle.parts.proofs.Scans.{next}
+use Rattle.image_layout.specs.declared.Scanned.the-variants.{Sound, Broken}
+use Rattle.image_layout.specs.Format.{bytes, value, items, jobBytes, jobOf}
+use Rattle.image_layout.specs.Reading.{Field, scan, wordField, responseField, numbers}
+use Rattle.image_layout.proofs.Bytes.{under-take, under-drop, length-bytes, value-bytes, bytes-value, job-law}
+use Rattle.image_layout.specs.Format.{Under, AreBytes}
+use Rattle.image_parts.proofs.Scans.{next}
 
 -- ---- written: a field that is right is passed
 

@@ -1,7 +1,6 @@
 -- Theorem: bytes that are sound are the image of the machine that they say. So the bytes that read as a machine are its one image,
 -- and sound bytes give a machine and a job that pass every check of writing but room, so that they can be stored and stepped again.
 -- Document 01, 'The image' and number 9.
--- Assumes nothing.
 use Prim.Native.Nat.{ℕ, zero, suc, _+_, _*_, _^_, _≤_, _<_}
 use mathlib.Core.Path.{_≡_, refl, sym, ap, ap₂, _∙_}
 use mathlib.Core.Bool.{false}
@@ -16,18 +15,18 @@ use borrow.Author.Tests.{leb-true, eqb-true, eq-eqb, ne-eqb, le-ltb, not-true}
 use Rattle.laws.specs.Bits.{pick}
 use Rattle.laws.proofs.Bits.{and-left, and-right}
 use Rattle.machine.specs.Refusals.{badSize, badWidth, machineCheck}
-use Rattle.plans.specs.declared.Held.{Held}
-use Rattle.plans.specs.declared.Held.the-variants.{Nothing, Holds}
-use Rattle.plans.specs.Places.{badHeld}
+use Rattle.job_plans.specs.declared.Held.{Held}
+use Rattle.job_plans.specs.declared.Held.the-variants.{Nothing, Holds}
+use Rattle.job_plans.specs.Places.{badHeld}
 use Rattle.jobs.specs.Runs.{State}
-use Rattle.layout.specs.declared.Scanned.the-variants.{Sound}
-use Rattle.layout.specs.Format.{bytes, value, items, section, jobBytes, jobOf, heldJobs, imageOf}
-use Rattle.layout.specs.Reading.{scan, countIs, wordCount, widthByte, wordField, responseField, jobCount, jobField, widthIn, wordsIn, jobsAt, jobsIn, heldIn, fieldsOf, scanned, numbers, stateIn}
+use Rattle.image_layout.specs.declared.Scanned.the-variants.{Sound}
+use Rattle.image_layout.specs.Format.{bytes, value, items, section, jobBytes, jobOf, heldJobs, imageOf}
+use Rattle.image_layout.specs.Reading.{scan, countIs, wordCount, widthByte, wordField, responseField, jobCount, jobField, widthIn, wordsIn, jobsAt, jobsIn, heldIn, fieldsOf, scanned, numbers, stateIn}
 use Rattle.image.specs.Calls.{badJob}
-use Rattle.layout.proofs.Bytes.{under-drop, under-take, length-numbers, value-one}
-use Rattle.layout.specs.Format.{Under, AreBytes}
-use Rattle.parts.proofs.Scans.{next, run}
-use Rattle.layout.proofs.Bytes.{zero-picks, other-picks}
+use Rattle.image_layout.proofs.Bytes.{under-drop, under-take, length-numbers, value-one}
+use Rattle.image_layout.specs.Format.{Under, AreBytes}
+use Rattle.image_parts.proofs.Scans.{next, run}
+use Rattle.image_layout.proofs.Bytes.{zero-picks, other-picks}
 use Rattle.image.proofs.Sections.{number-cut, items-cut, job-cut, words-held, none-wide, nothing-left}
 use Rattle.image.proofs.RoundTrip.{flat}
 use Rattle.image.specs.Calls.{ConstantFits, Stored}

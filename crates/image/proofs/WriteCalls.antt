@@ -1,5 +1,4 @@
 -- Writing as a whole: its checks in order, the image's length, and the two parts stored make the image.
--- Assumes nothing.
 use Prim.Native.Nat.{ℕ, _+_, _*_, _≤_, _<_}
 use mathlib.Core.Path.{_≡_, sym, ap, ap₂, _∙_}
 use mathlib.Core.Bool.{Bool, true, false}
@@ -16,15 +15,15 @@ use Rattle.machine.specs.declared.Check.the-variants.{Passed, Refused}
 use Rattle.machine.specs.Machine.{Machine}
 use Rattle.machine.specs.Refusals.{refuse, machineCheck}
 use Rattle.machine.proofs.Checks.{sound, size-same, else-passed, not-refused}
-use Rattle.plans.specs.declared.Held.{Held}
-use Rattle.plans.specs.declared.Held.the-variants.{Nothing, Holds}
+use Rattle.job_plans.specs.declared.Held.{Held}
+use Rattle.job_plans.specs.declared.Held.the-variants.{Nothing, Holds}
 use Rattle.jobs.specs.Runs.{State}
 use Rattle.image.specs.declared.Wrote.the-variants as wrote
-use Rattle.layout.specs.Format.{bytes, items, section, jobBytes, heldJobs, imageOf}
+use Rattle.image_layout.specs.Format.{bytes, items, section, jobBytes, heldJobs, imageOf}
 use Rattle.image.specs.Calls.{badJob, writeCheck, writeOf, written}
-use Rattle.stores.specs.Stored.{machineBytes}
-use Rattle.layout.proofs.Bytes.{length-bytes, length-items, length-job}
-use Rattle.stores.proofs.Storing.{sets-append}
+use Rattle.image_stores.specs.Stored.{machineBytes}
+use Rattle.image_layout.proofs.Bytes.{length-bytes, length-items, length-job}
+use Rattle.image_stores.proofs.Storing.{sets-append}
 
 -- ---- how long an image is
 

@@ -1,6 +1,5 @@
 -- Document 01, 'The image': what writing and reading answer, and what they leave in what is lent.
 -- "writing an image for 1 to 3, 8 and 10; reading one for 9 and 10"
--- Assumes nothing.
 use mathlib.Core.Path.{_≡_}
 use Prim.Native.Nat.{ℕ, _^_, _<_}
 use mathlib.Core.Bool.{Bool, false, _||_}
@@ -13,18 +12,18 @@ use Rattle.machine.specs.declared.Check.the-variants as check
 use Rattle.machine.specs.declared.Refusal.the-variants.{Unfit, Malformed, NoRoom}
 use Rattle.machine.specs.Machine.{Machine}
 use Rattle.machine.specs.Refusals.{_else_, refuse, machineCheck, answerBy, changeBy}
-use Rattle.plans.specs.declared.Held.{Held}
-use Rattle.plans.specs.declared.Held.the-variants.{Nothing, Holds}
-use Rattle.plans.specs.Places.{badHeld}
+use Rattle.job_plans.specs.declared.Held.{Held}
+use Rattle.job_plans.specs.declared.Held.the-variants.{Nothing, Holds}
+use Rattle.job_plans.specs.Places.{badHeld}
 use Rattle.jobs.specs.Runs.{State}
 use Rattle.image.specs.declared.Wrote.{Wrote}
 use Rattle.image.specs.declared.Wrote.the-variants as wrote
 use Rattle.image.specs.declared.Read.{Read}
 use Rattle.image.specs.declared.Read.the-variants as read
-use Rattle.layout.specs.declared.Scanned.{Scanned}
-use Rattle.layout.specs.declared.Scanned.the-variants.{Sound, Broken}
-use Rattle.layout.specs.Format.{imageOf, AreBytes}
-use Rattle.layout.specs.Reading.{wordsIn, scanned, stateIn}
+use Rattle.image_layout.specs.declared.Scanned.{Scanned}
+use Rattle.image_layout.specs.declared.Scanned.the-variants.{Sound, Broken}
+use Rattle.image_layout.specs.Format.{imageOf, AreBytes}
+use Rattle.image_layout.specs.Reading.{wordsIn, scanned, stateIn}
 
 -- ---- writing
 

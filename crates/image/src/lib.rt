@@ -3,9 +3,9 @@
 pub mod reading;
 pub mod writing;
 
-pub use layout::Scanned;
+pub use image_layout::Scanned;
 use machine::Refusal;
-use plans::Held;
+use job_plans::Held;
 
 // What writing answers: the image's length.
 pub enum Wrote {

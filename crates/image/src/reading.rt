@@ -1,16 +1,16 @@
 // Reading: checked "for 9 and 10"; it "changes only the first n of each destination".
 // Document 01, 'The image' and 'Numbers given when a call is turned down'.
 use crate::Read;
-use layout::Scanned;
+use image_layout::Scanned;
 use machine::Check;
 use machine::Refusal;
 use machine::Response;
-use parts::fields;
+use image_parts::fields;
 ghost use mathlib.Core.Path.{_≡_};
 ghost use Prim.Native.Nat.{_+_, _*_, _≤_};
 ghost use lib.ListN.{length, drop};
 ghost use lib.Seq.{sets};
-ghost use Rattle.layout.specs.Reading.{numbers};
+ghost use Rattle.image_layout.specs.Reading.{numbers};
 ghost use Rattle.image.specs.Calls.{readCheck, readOf, wordsRead, responsesRead};
 
 fn check_read(image: &[u8], words: usize, responses: usize) -> Check

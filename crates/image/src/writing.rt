@@ -4,13 +4,13 @@ use crate::Wrote;
 use machine::Check;
 use machine::Refusal;
 use machine::Response;
-use plans::Held;
-use stores::put_held;
-use stores::put_machine;
+use job_plans::Held;
+use image_stores::put_held;
+use image_stores::put_machine;
 ghost use mathlib.Core.Path.{_≡_};
 ghost use Prim.Native.Nat.{_+_, _*_, _≤_};
 ghost use lib.ListN.{length};
-ghost use Rattle.layout.specs.Format.{heldJobs};
+ghost use Rattle.image_layout.specs.Format.{heldJobs};
 ghost use Rattle.image.specs.Calls.{badJob, writeCheck, writeOf, written};
 ghost use Rattle.jobs.specs.Runs.{state};
 
@@ -20,7 +20,7 @@ fn bad_job(width: u32, held: Held) -> bool
 {
     match held {
         Held::Nothing => false,
-        Held::Holds(o) => places::bad_held(width, o),
+        Held::Holds(o) => job_places::bad_held(width, o),
     }
 }
 

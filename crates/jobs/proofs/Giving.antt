@@ -1,5 +1,4 @@
 -- What a step answers and leaves, from what its callees ensure.
--- Assumes nothing.
 use Prim.Native.Nat.{ℕ}
 use mathlib.Core.Path.{_≡_, refl, sym, ap, ap₂, _∙_}
 use mathlib.Core.List.{List}
@@ -11,17 +10,17 @@ use Rattle.machine.specs.declared.Check.the-variants.{Passed, Refused}
 use Rattle.machine.specs.Machine.{Machine}
 use Rattle.machine.specs.Pulse.{countOf, readOf, pulsed}
 use Rattle.machine.specs.Refusals.{pulseCheck, answerOf, after}
-use Rattle.plans.specs.declared.Job.{Job}
-use Rattle.plans.specs.declared.Held.{Held}
-use Rattle.plans.specs.declared.Held.the-variants.{Holds}
-use Rattle.plans.specs.declared.Command.{Command}
+use Rattle.job_plans.specs.declared.Job.{Job}
+use Rattle.job_plans.specs.declared.Held.{Held}
+use Rattle.job_plans.specs.declared.Held.the-variants.{Holds}
+use Rattle.job_plans.specs.declared.Command.{Command}
 use Rattle.jobs.specs.declared.Started.the-variants as started
 use Rattle.jobs.specs.declared.Stepped.{Stepped}
 use Rattle.jobs.specs.declared.Stepped.the-variants as stepped
-use Rattle.plans.specs.Places.{stepCheck, first, next}
-use Rattle.plans.specs.Commands.{command}
+use Rattle.job_plans.specs.Places.{stepCheck, first, next}
+use Rattle.job_plans.specs.Commands.{command}
 use Rattle.jobs.specs.Calls.{startCheck, startOf, gave, stepOf, afterStep}
-use Rattle.plans.proofs.Standing.{good, fair-held}
+use Rattle.job_plans.proofs.Standing.{good, fair-held}
 use Rattle.jobs.proofs.Taken.{passes}
 
 -- ---- a step that is not turned down

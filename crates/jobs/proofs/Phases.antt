@@ -1,16 +1,15 @@
 -- Commands by phase, as the code's `match` finds them.
--- Assumes nothing.
 use Prim.Native.Nat.{ℕ, _+_, _-_, _*_, _%_, _^_, _≤_, _<_}
 use mathlib.Core.Path.{_≡_, _∙_}
 use native.Mathlib.Omega.{arith}
 use borrow.Author.Tests.{eq-eqb, ne-eqb}
 use lib.Pow.{shl-exact}
-use Rattle.plans.specs.declared.Span.{Span}
-use Rattle.plans.specs.declared.Job.{Job}
-use Rattle.plans.specs.Fields.{kindOf}
-use Rattle.plans.specs.Commands.{opening, trial, second, command, plus, multiaddLine}
-use Rattle.plans.proofs.ByKind.{picked, passed}
-use Rattle.plans.proofs.Shifts.{one-shifted, run}
+use Rattle.job_plans.specs.declared.Span.{Span}
+use Rattle.job_plans.specs.declared.Job.{Job}
+use Rattle.job_plans.specs.Fields.{kindOf}
+use Rattle.job_plans.specs.Commands.{opening, trial, second, command, plus, multiaddLine}
+use Rattle.job_plans.proofs.ByKind.{picked, passed}
+use Rattle.job_plans.proofs.Shifts.{one-shifted, run}
 
 pub at-opening : (o : Job) → o .phase ≡ 0 → opening o ≡ command o
 unfolding command

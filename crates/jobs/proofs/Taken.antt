@@ -1,5 +1,4 @@
 -- The command of a job that number 8 does not turn down is never refused as a pulse, on a machine that 1 to 3 do not.
--- Assumes nothing.
 use Prim.Native.Nat.{ℕ, zero, suc, _+_, _-_, _*_, _%_, _^_, _≤_, _<_}
 use mathlib.Core.Path.{_≡_, refl}
 use mathlib.Core.Bool.{Bool, true, false}
@@ -19,13 +18,13 @@ use Rattle.machine.specs.declared.Check.the-variants.{Passed}
 use Rattle.machine.specs.Machine.{Machine, Syllable, syllables}
 use Rattle.machine.specs.Search.{code, orExact, oneCode, codeAt}
 use Rattle.machine.specs.Refusals.{tooWide, badPanel, badCodes, badLines, badAddress, machineCheck, pulseCheck}
-use Rattle.plans.specs.declared.Span.{Span}
-use Rattle.plans.specs.declared.Job.{Job}
-use Rattle.plans.specs.declared.Command.{Command}
-use Rattle.plans.specs.Fields.{Kind, greatest, smallest, scaledAdd, product, unknown, kindOf}
-use Rattle.plans.specs.Places.{badHeld}
-use Rattle.plans.specs.Commands.{look, plus, trial, second, bitOf, command}
-use Rattle.plans.proofs.Fair.{Fair, fair, room-for, scaled-sum, product-sum}
+use Rattle.job_plans.specs.declared.Span.{Span}
+use Rattle.job_plans.specs.declared.Job.{Job}
+use Rattle.job_plans.specs.declared.Command.{Command}
+use Rattle.job_plans.specs.Fields.{Kind, greatest, smallest, scaledAdd, product, unknown, kindOf}
+use Rattle.job_plans.specs.Places.{badHeld}
+use Rattle.job_plans.specs.Commands.{look, plus, trial, second, bitOf, command}
+use Rattle.job_plans.proofs.Fair.{Fair, fair, room-for, scaled-sum, product-sum}
 
 -- nothing of 4 to 7
 pub record Taken (n : ℕ) (k : Command) : Type 0 where

@@ -1,6 +1,5 @@
 -- Document 01, 'Jobs': what start and step answer, and the machine after a step.
 -- "job start, job step and show for 1 to 3 and 8"
--- Assumes nothing.
 use Prim.Native.Nat.{ℕ}
 use mathlib.Core.Bool.{Bool, true, false, _||_}
 use Rattle.machine.specs.declared.Check.{Check}
@@ -8,19 +7,19 @@ use Rattle.machine.specs.declared.Refusal.the-variants.{Unfit}
 use Rattle.machine.specs.Machine.{Machine}
 use Rattle.machine.specs.Pulse.{countOf, pulsed}
 use Rattle.machine.specs.Refusals.{_else_, refuse, machineCheck, answerBy}
-use Rattle.plans.specs.declared.Job.{Job}
-use Rattle.plans.specs.declared.Held.{Held}
-use Rattle.plans.specs.declared.Held.the-variants.{Nothing, Holds}
-use Rattle.plans.specs.declared.Command.{Command}
+use Rattle.job_plans.specs.declared.Job.{Job}
+use Rattle.job_plans.specs.declared.Held.{Held}
+use Rattle.job_plans.specs.declared.Held.the-variants.{Nothing, Holds}
+use Rattle.job_plans.specs.declared.Command.{Command}
 use Rattle.jobs.specs.declared.Started.{Started}
 use Rattle.jobs.specs.declared.Started.the-variants as started
 use Rattle.jobs.specs.declared.Stepped.{Stepped}
 use Rattle.jobs.specs.declared.Stepped.the-variants as stepped
-use Rattle.plans.specs.Fields.{badUsed}
-use Rattle.plans.specs.Places.{first, next}
-pub use Rattle.plans.specs.Places.{badStep}
-unfoldable pub use Rattle.plans.specs.Places.{stepCheck}
-use Rattle.plans.specs.Commands.{command}
+use Rattle.job_plans.specs.Fields.{badUsed}
+use Rattle.job_plans.specs.Places.{first, next}
+pub use Rattle.job_plans.specs.Places.{badStep}
+unfoldable pub use Rattle.job_plans.specs.Places.{stepCheck}
+use Rattle.job_plans.specs.Commands.{command}
 
 -- ---- start
 

@@ -3,16 +3,16 @@ use machine::Lines;
 use machine::Panel;
 use machine::Response;
 use machine::WordSlice;
-use plans::Command;
-use plans::Job;
-use plans::Span;
-use plans::low_bits;
+use job_plans::Command;
+use job_plans::Job;
+use job_plans::Span;
+use job_plans::low_bits;
 ghost use mathlib.Core.Path.{_≡_};
 ghost use mathlib.Core.Bool.{false};
 ghost use Prim.Native.Nat.{_+_, _-_, _*_, _%_, _^_, _≤_, _<_};
-ghost use Rattle.plans.specs.Fields.{kindOf};
-ghost use Rattle.plans.specs.Places.{badHeld};
-ghost use Rattle.plans.specs.Commands as commands;
+ghost use Rattle.job_plans.specs.Fields.{kindOf};
+ghost use Rattle.job_plans.specs.Places.{badHeld};
+ghost use Rattle.job_plans.specs.Commands as commands;
 
 // ---- registers
 

@@ -1,2 +1,2 @@
 // Document 01, 'Jobs': the number of pulses a job takes, passed on from its crate.
-pub use tally::totals::total;
+pub use job_tally::totals::total;

@@ -1,5 +1,4 @@
 -- A walk over two lists side by side, both changed as it goes: what is done and what is left to do give the whole.
--- Assumes nothing.
 use Prim.Native.Nat.{ℕ, suc, _+_, _≤_, _<_}
 use mathlib.Core.Path.{_≡_, refl, sym, ap, ap₂, _∙_}
 use mathlib.Core.List.{List, [], _∷_, _++_, append-nil}

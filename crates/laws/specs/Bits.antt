@@ -1,5 +1,4 @@
 -- Bits of numbers, and the number that bits make: the words in which document 01's sentences on bits are written down.
--- Assumes nothing.
 use Prim.Native.Nat.{ℕ, zero, suc, _+_, _*_, _/_, _%_, _^_}
 use mathlib.Core.Bool.{Bool, true, false, _&&_}
 use lib.Dec.{eqb}

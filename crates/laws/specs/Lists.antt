@@ -1,5 +1,4 @@
 -- Lists: a test of each, and two lists walked side by side and numbered.
--- Assumes nothing.
 use Prim.Native.Nat.{ℕ, zero, suc, _+_}
 use mathlib.Core.Bool.{Bool, true, _&&_}
 use mathlib.Core.List.{List, [], _∷_}

@@ -1,5 +1,4 @@
 -- "Input is bytes, split at newlines; a last line with no newline counts." What is kept of a line, and what one call of `next` takes.
--- Assumes nothing.
 use Prim.Native.Nat.{ℕ, _+_, _-_, _<_, min}
 use mathlib.Core.Path.{_≡_}
 use mathlib.Core.Bool.{Bool, true, not, _&&_}

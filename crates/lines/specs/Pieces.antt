@@ -1,5 +1,4 @@
 -- A line that is read piece by piece: what the inner functions promise. A reader of `next` needs only Input.
--- Assumes nothing.
 use Prim.Native.Nat.{ℕ, _+_, _-_}
 use mathlib.Core.Path.{_≡_}
 use mathlib.Core.Bool.{true}

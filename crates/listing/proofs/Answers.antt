@@ -1,5 +1,4 @@
 -- The parts of a list that depend on a case.
--- Assumes nothing.
 use Prim.Native.Nat.{ℕ, _<_, _≤_}
 use mathlib.Core.Path.{_≡_, refl}
 use mathlib.Core.List.{List, [], _++_, append-assoc}

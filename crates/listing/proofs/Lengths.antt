@@ -1,5 +1,4 @@
 -- How long the parts of an answer can be, and a refusal's.
--- Assumes nothing.
 use Prim.Native.Nat.{ℕ, zero, suc, _+_, _/_, _%_, _≤_}
 use Prim.Native.String.{String}
 use mathlib.Core.Bool.{Bool, true, false}

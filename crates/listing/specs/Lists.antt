@@ -1,5 +1,4 @@
 -- What the program `list` prints of an image (document 01, figure 13), what is printed of a refusal, and the parts of a line.
--- Assumes nothing.
 use Prim.Native.Nat.{ℕ, zero, suc}
 use Prim.Native.String.{String}
 use mathlib.Core.Bool.{_&&_}

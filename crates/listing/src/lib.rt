@@ -1,6 +1,7 @@
 // What the program `list` prints of an image: the head and a line for each word, without the last newline. Document 01, figure 13.
 use image::Read;
 use machine::Refusal;
+use machine::Response;
 ghost use Rattle.output.specs.Puts.{Puts};
 ghost use Rattle.listing.specs.Lists as lists;
 
@@ -21,7 +22,7 @@ pub fn put_refusal(out: &mut [u8], why: Refusal) -> usize
 // ---- the list
 
 // "contents hex, 16 and 2 capital digits, other numbers decimal"
-fn put_line(out: &mut [u8], at: usize, i: usize, word: u64, response: u8) -> usize
+fn put_line(out: &mut [u8], at: usize, i: usize, word: u64, response: Response) -> usize
     ensures { λ r. ⌜ Puts (lists.wordText i word response) at (now (out .entry)) (now (out .exit)) r ⌝ }
 {
     let number = output::put_named(out, at, b"\n", i as u64);
@@ -29,7 +30,7 @@ fn put_line(out: &mut [u8], at: usize, i: usize, word: u64, response: u8) -> usi
     output::put_named2(out, content, b" ", response)
 }
 
-fn put_entry(out: &mut [u8], at: usize, i: usize, words: &[u64], responses: &[u8]) -> usize
+fn put_entry(out: &mut [u8], at: usize, i: usize, words: &[u64], responses: &[Response]) -> usize
     ensures { λ r. ⌜ Puts (lists.entryText i (now (words .entry)) (now (responses .entry))) at (now (out .entry)) (now (out .exit)) r ⌝ }
 {
     if i < words.len() {
@@ -40,7 +41,7 @@ fn put_entry(out: &mut [u8], at: usize, i: usize, words: &[u64], responses: &[u8
     at
 }
 
-fn put_lines(out: &mut [u8], at: usize, words: &[u64], responses: &[u8], n: usize) -> usize
+fn put_lines(out: &mut [u8], at: usize, words: &[u64], responses: &[Response], n: usize) -> usize
     ensures { λ r. ⌜ Puts (lists.wordsText n 0 (now (words .entry)) (now (responses .entry))) at (now (out .entry)) (now (out .exit)) r ⌝ }
 {
     let mut end = at;
@@ -52,7 +53,7 @@ fn put_lines(out: &mut [u8], at: usize, words: &[u64], responses: &[u8], n: usiz
     end
 }
 
-fn put_found(out: &mut [u8], found: Read, words: &[u64], responses: &[u8]) -> usize
+fn put_found(out: &mut [u8], found: Read, words: &[u64], responses: &[Response]) -> usize
     ensures { λ r. ⌜ Puts (lists.foundText found (now (words .entry)) (now (responses .entry))) 0 (now (out .entry)) (now (out .exit)) r ⌝ }
 {
     match found {

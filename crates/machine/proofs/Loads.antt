@@ -1,5 +1,4 @@
 -- Loading one register of the panel changes that register and no other, and leaves nothing of the panel open.
--- Assumes nothing.
 use Prim.Native.Nat.{ℕ, _<_}
 use mathlib.Core.Path.{_≡_, _∙_, ap}
 use lib.ListN.{getD}

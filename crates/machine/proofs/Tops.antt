@@ -1,5 +1,4 @@
 -- The syllables tile the word, and a bit starts one exactly if it is a one of SDR or bit N-1.
--- Assumes nothing.
 use Prim.Native.Nat.{ℕ, zero, suc, _+_, _-_, _≤_, _<_}
 use mathlib.Core.Path.{_≡_, refl, _∙_}
 use mathlib.Core.Bool.{Bool, true, false, _&&_, _||_, or-true, and-false}

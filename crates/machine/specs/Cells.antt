@@ -1,5 +1,4 @@
 -- Document 01, 'One pulse', The cells: a search from top bit to bottom, an add from bottom to top.
--- Assumes nothing.
 use Prim.Native.Nat.{ℕ, zero, suc, _+_, _/_, _%_}
 use mathlib.Core.Bool.{Bool, true, false, _&&_}
 use Rattle.laws.specs.Bits.{bit}

@@ -1,5 +1,4 @@
 -- Document 01, 'The machine': the machine, its syllables, selection.
--- Assumes nothing.
 use Prim.Native.Nat.{ℕ, zero, suc, _+_, _-_}
 use mathlib.Core.Bool.{Bool, true, false, _||_}
 use mathlib.Core.List.{List, [], _∷_}

@@ -1,5 +1,4 @@
 -- Document 01, 'The machine': the panel's nine registers, and loading one of them.
--- Assumes nothing.
 use Prim.Native.Nat.{ℕ}
 use mathlib.Core.List.{List, [], _∷_}
 use lib.ListN.{set}

@@ -1,6 +1,5 @@
 -- Document 01, 'One pulse': write, add, pairs, complement, count and read; what a pulse does to the machine.
 -- "All results are worked out from the machine before the pulse."
--- Assumes nothing.
 use Prim.Native.Nat.{ℕ, _+_, _*_, _-_, _%_, _^_, max}
 use mathlib.Core.Bool.{Bool, true, false, _&&_, _||_}
 use mathlib.Core.List.{List, [], _∷_}

@@ -1,5 +1,4 @@
 -- Document 01, 'Numbers given when a call is turned down': 1 to 7, and what a pulse answers and leaves.
--- Assumes nothing.
 use Prim.Native.Nat.{ℕ, _+_, _^_}
 use mathlib.Core.Bool.{Bool, true, false, not, _&&_, _||_}
 use lib.Dec.{ltb, leb, eqb}

@@ -1,5 +1,4 @@
 -- Document 01, 'One pulse', Resolution.
--- Assumes nothing.
 use Prim.Native.Nat.{ℕ, suc}
 use mathlib.Core.Bool.{Bool}
 use mathlib.Core.List.{List, [], _∷_}

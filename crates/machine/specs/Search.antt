@@ -1,5 +1,4 @@
 -- Document 01, 'One pulse', Search: by the numbers that word and COMP make over each syllable.
--- Assumes nothing.
 use Prim.Native.Nat.{ℕ, zero, suc, _+_}
 use mathlib.Core.Bool.{Bool, true, false, _&&_, _||_}
 use lib.Dec.{ltb, eqb}

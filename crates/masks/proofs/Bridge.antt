@@ -1,6 +1,5 @@
 -- The sweeps' rules with the panel's masks are the machine's definitions: what the code computes by whole words is what document 01 says bit by bit
 -- and syllable by syllable ('One pulse').
--- Assumes nothing.
 use Prim.Native.Nat.{ℕ, _^_, _<_}
 use mathlib.Core.Path.{_≡_, refl, sym, ap, ap₂, _∙_}
 use mathlib.Core.List.{List}

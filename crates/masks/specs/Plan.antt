@@ -1,5 +1,4 @@
 -- What a pulse works out of the panel once, as the code computes it. Document 01, 'One pulse'.
--- Assumes nothing.
 use Prim.Native.Nat.{ℕ, _-_, _^_, _≤_, _<_}
 use lib.Bits.{bitAnd, bitOr, bitXor}
 use Rattle.machine.specs.declared.Panel.{Panel}

@@ -1,5 +1,4 @@
 -- A text put into a lent buffer behind the bytes that are used.
--- Assumes nothing.
 use Prim.Native.Nat.{ℕ, _+_, _≤_}
 use mathlib.Core.Path.{_≡_}
 use mathlib.Core.List.{List}

@@ -1,5 +1,4 @@
 -- A load by number: what a register takes, and that this is the value chosen for it.
--- Assumes nothing.
 use Prim.Native.Nat.{ℕ, _≤_, _<_, _%_}
 use mathlib.Core.Path.{_≡_, refl, sym, _∙_, ap}
 use mathlib.Core.Bool.{Bool, true, false, not}

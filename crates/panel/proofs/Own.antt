@@ -1,5 +1,5 @@
 -- A thin load is called on a panel that lies in a local of the caller: the local is lent for a lifetime made for the call, and comes back with the panel loaded.
--- Of the thin load the proof knows only that it meets its contract. Assumes nothing.
+-- Of the thin load the proof knows only that it meets its contract.
 use mathlib.Core.Path.{_≡_, ap}
 use Prim.Native.Nat.{ℕ}
 use mathlib.Core.List.{[], _∷_, List}

@@ -1,5 +1,5 @@
 -- "Each public call's contract determines its answer and everything lent to it afterwards": of a thin load, what its contract says of two outcomes makes the panels lent equal.
--- A thin load's contract is read in the logic of its walk, as a formula, and so is what follows from it. Assumes nothing.
+-- A thin load's contract is read in the logic of its walk, as a formula, and so is what follows from it.
 use mathlib.Core.Path.{_≡_, sym, _∙_}
 use Prim.Native.Nat.{ℕ}
 use mathlib.Core.List.{List}

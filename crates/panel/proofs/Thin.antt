@@ -1,6 +1,6 @@
 -- A thin load meets its contract: a walk of its MIR, by hand, stated once over the value's type, the load by value that it calls and what both promise.
 -- The borrow is opened, the panel behind it is copied, the load by value is called on the copy, and what it returns is stored and the borrow closed at it.
--- Of the load by value the proof knows only that it meets its contract. Assumes nothing.
+-- Of the load by value the proof knows only that it meets its contract.
 use mathlib.Core.Path.{_≡_, refl}
 use Prim.Native.Nat.{ℕ}
 use mathlib.Core.List.{[], _∷_, List}

@@ -1,5 +1,4 @@
 -- Loading a register of the panel by its number (document 01, 'The machine'; the numbers are those of `registers`).
--- Assumes nothing.
 use Prim.Native.Nat.{ℕ}
 use mathlib.Core.Bool.{Bool, true, not}
 use lib.Dec.{eqb, ltb}

@@ -1,6 +1,5 @@
 -- Demand 1, of the answers: each "tells the number and what it also answers" of the first condition of its table that holds (`Demand1`), and
 -- "nothing lent changes".
--- Assumes nothing.
 use Prim.Native.Nat.{ℕ}
 use mathlib.Core.Path.{_≡_, refl, sym, ap, _∙_}
 use mathlib.Core.Bool.{_||_}
@@ -21,19 +20,19 @@ use Rattle.machine.specs.Machine.{Machine}
 use Rattle.machine.specs.Pulse.{pulsed}
 use Rattle.machine.specs.Resolution as res
 use Rattle.machine.specs.Refusals.{_else_, refuse, machineCheck, pulseCheck, answerBy, changeBy, answerOf, after, tells, told}
-use Rattle.plans.specs.declared.Job.{Job}
-use Rattle.plans.specs.declared.Held.{Held}
-use Rattle.plans.specs.declared.Held.the-variants.{Holds}
-use Rattle.plans.specs.declared.Held.the-variants as held
-use Rattle.plans.specs.Fields.{badUsed}
+use Rattle.job_plans.specs.declared.Job.{Job}
+use Rattle.job_plans.specs.declared.Held.{Held}
+use Rattle.job_plans.specs.declared.Held.the-variants.{Holds}
+use Rattle.job_plans.specs.declared.Held.the-variants as held
+use Rattle.job_plans.specs.Fields.{badUsed}
 use Rattle.jobs.specs.declared.Started.{Started}
 use Rattle.jobs.specs.declared.Started.the-variants as started
 use Rattle.jobs.specs.declared.Stepped.{Stepped}
 use Rattle.jobs.specs.declared.Stepped.the-variants as stepped
 use Rattle.jobs.specs.Calls.{isHeld, startCheck, startOf, badStep, stepCheck, gave, stepOf, machineAfter, afterStep}
-use Rattle.tally.specs.declared.Total.{Total}
-use Rattle.tally.specs.declared.Total.the-variants as total
-use Rattle.tally.specs.Totals.{badTotal, totalCheck, totalOf}
+use Rattle.job_tally.specs.declared.Total.{Total}
+use Rattle.job_tally.specs.declared.Total.the-variants as total
+use Rattle.job_tally.specs.Totals.{badTotal, totalCheck, totalOf}
 use Rattle.jobs.specs.Runs.{State}
 use Rattle.image.specs.declared.Wrote.{Wrote}
 use Rattle.image.specs.declared.Wrote.the-variants as wrote

@@ -1,7 +1,6 @@
 -- Demand 1: "Every call takes any input. What is wrong gets its refusal number from document 01, always the same one, and nothing lent changes."
 -- That calls take any input is said by their contracts, which have no `requires`. Here: each call's refusal; `Answered` has what its answer
 -- tells, and that nothing lent changes.
--- Assumes nothing.
 use Prim.Native.Nat.{ℕ}
 use mathlib.Core.Path.{_≡_, refl, sym, _∙_}
 use mathlib.Core.Bool.{Bool, true, false, _||_}
@@ -21,16 +20,16 @@ use Rattle.machine.specs.declared.Check.the-variants.{Passed, Refused}
 use Rattle.machine.specs.Machine.{Machine}
 use Rattle.machine.specs.Resolution.{lowest}
 use Rattle.machine.specs.Refusals.{badSize, badWidth, tooWide, badPanel, badCodes, badLines, badAddress, _else_, refuse, refuseWord, machineCheck, pulseCheck, tells, numberOf, alsoAnswers}
-use Rattle.plans.specs.declared.Job.{Job}
-use Rattle.plans.specs.declared.Held.{Held}
-use Rattle.plans.specs.Fields.{badUsed}
+use Rattle.job_plans.specs.declared.Job.{Job}
+use Rattle.job_plans.specs.declared.Held.{Held}
+use Rattle.job_plans.specs.Fields.{badUsed}
 use Rattle.jobs.specs.Calls.{isHeld, startCheck, badStep, stepCheck}
-use Rattle.tally.specs.Totals.{badTotal, totalCheck}
+use Rattle.job_tally.specs.Totals.{badTotal, totalCheck}
 use Rattle.jobs.specs.Runs.{State}
-use Rattle.layout.specs.declared.Scanned.{Scanned}
-use Rattle.layout.specs.declared.Scanned.the-variants.{Sound, Broken}
-use Rattle.layout.specs.Format.{imageOf}
-use Rattle.layout.specs.Reading.{wordsIn, scanned}
+use Rattle.image_layout.specs.declared.Scanned.{Scanned}
+use Rattle.image_layout.specs.declared.Scanned.the-variants.{Sound, Broken}
+use Rattle.image_layout.specs.Format.{imageOf}
+use Rattle.image_layout.specs.Reading.{wordsIn, scanned}
 use Rattle.image.specs.Calls.{badJob, writeCheck, refuseBytes, readCheck}
 use Rattle.handout.specs.Whole.{roundCheck}
 use Rattle.rounds.specs.Round.{noBit, badBits, otherThan, shown, bitsCheck, showCheck, answerCheck}

@@ -1,6 +1,5 @@
 -- Demand 2: "Every pulse does to every word what 01 lays down. Search marks exactly the matching words. The cell-by-cell machine and the word-wide
 -- machine agree. An image read back is the machine stored; each machine has one image."
--- Assumes nothing.
 use Prim.Native.Nat.{ℕ, _≤_, _<_}
 use mathlib.Core.Path.{_≡_, sym, _∙_}
 use mathlib.Core.Bool.{Bool, true, false}
@@ -32,15 +31,15 @@ use Rattle.machine.specs.Refusals.{pulseCheck, after}
 use Rattle.machine.proofs.Checks as checks
 use Rattle.machine.proofs.Statuses.{cells-match}
 use Rattle.jobs.specs.Runs.{State}
-use Rattle.layout.specs.declared.Scanned.the-variants.{Sound, Broken}
-use Rattle.layout.specs.Format.{imageOf}
-use Rattle.layout.specs.Reading.{scanned, fieldsOf, stateIn}
-use Rattle.layout.specs.Format.{AreBytes}
+use Rattle.image_layout.specs.declared.Scanned.the-variants.{Sound, Broken}
+use Rattle.image_layout.specs.Format.{imageOf}
+use Rattle.image_layout.specs.Reading.{scanned, fieldsOf, stateIn}
+use Rattle.image_layout.specs.Format.{AreBytes}
 use Rattle.image.proofs.RoundTrip.{roundTrip, injective}
 use Rattle.image.specs.Calls.{Stored}
 use Rattle.image.proofs.Unique.{one-image, stored-again}
 use Rattle.image.proofs.Cuts.{within, image-cut-off}
-use Rattle.layout.specs.Reading.{startOf}
+use Rattle.image_layout.specs.Reading.{startOf}
 use Rattle.cells.proofs.pulse as plain
 use Rattle.cells.proofs.pulse.Kinds as plain-kinds
 use Rattle.cells.proofs.pulse.Reads as plain-reads

@@ -1,6 +1,5 @@
 -- Demand 3: "A job gives one named command a step, ends in the stated arithmetic, in exactly the stated number of pulses, and survives a stop at any
 -- pulse. A hand-out round shows a responder with k lower ones after exactly k stored answers."
--- Assumes nothing.
 use Prim.Native.Nat.{ℕ, zero, suc, _+_, _*_, _-_, _^_, _≤_, _<_, min}
 use mathlib.Core.Path.{_≡_, refl}
 use mathlib.Core.Bool.{true, false, _&&_}
@@ -17,16 +16,16 @@ use Rattle.machine.specs.declared.Check.the-variants.{Passed}
 use Rattle.machine.specs.Machine.{Machine, responseBits}
 use Rattle.machine.specs.Refusals.{pulseCheck, after}
 use Rattle.resolver.specs.declared.Resolved.the-variants as resolved
-use Rattle.plans.specs.declared.Job.{Job}
-use Rattle.plans.specs.declared.Held.{Held}
-use Rattle.plans.specs.declared.Held.the-variants.{Nothing, Holds}
-use Rattle.plans.specs.declared.Command.{Command}
+use Rattle.job_plans.specs.declared.Job.{Job}
+use Rattle.job_plans.specs.declared.Held.{Held}
+use Rattle.job_plans.specs.declared.Held.the-variants.{Nothing, Holds}
+use Rattle.job_plans.specs.declared.Command.{Command}
 use Rattle.jobs.specs.declared.Stepped.the-variants as answer
 use Rattle.jobs.specs.Calls.{stepOf, afterStep}
-use Rattle.tally.specs.declared.Total.the-variants as total
-use Rattle.plans.specs.Fields.{Kind, greatest, smallest, scaledAdd, product, unknown, kindOf}
-use Rattle.plans.specs.Places.{first, firstFor, atFirst}
-use Rattle.tally.specs.Totals.{sumBelow, ones, zeros, valueOf, values, greatestOf, smallestOf, pulses, totalCheck, totalOf}
+use Rattle.job_tally.specs.declared.Total.the-variants as total
+use Rattle.job_plans.specs.Fields.{Kind, greatest, smallest, scaledAdd, product, unknown, kindOf}
+use Rattle.job_plans.specs.Places.{first, firstFor, atFirst}
+use Rattle.job_tally.specs.Totals.{sumBelow, ones, zeros, valueOf, values, greatestOf, smallestOf, pulses, totalCheck, totalOf}
 use Rattle.jobs.specs.Runs.{State, stepped, steps}
 use Rattle.ends.specs.Ends.{Accepted, begun, Gives, ended, Adds, Marks}
 use Rattle.ends.proofs.Steps.{given-passed}
@@ -42,7 +41,7 @@ use Rattle.rounds.specs.Round.{badBits, bitsCheck, shown, showOf, replyOf}
 use Rattle.rounds.specs.Handout.{responders, responder, response, NotAmong, firstOf, Answers}
 use Rattle.rounds.specs.Round.{Fit}
 use Rattle.rounds.proofs.Handout.{handed-out}
-use Rattle.layout.specs.Format.{imageOf}
+use Rattle.image_layout.specs.Format.{imageOf}
 use Rattle.hosts.specs.Images.{Stores, Resumes}
 use Rattle.hosts.specs.Stops.{Kept, In, Worked}
 use Rattle.hosts.specs.Rounds.{Responder, lower, Leaves, Apart, Phase, ready, showing, Entry, Hosted, stops, Orderly, Shown}

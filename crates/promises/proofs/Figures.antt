@@ -1,6 +1,5 @@
 -- Document 01, 'Figures to check by': the cases marked P, as rows of one table under one statement.
 -- "N=8, words 35 9C 35 (hex), responses 0, SDR 88, all else 0 unless said."
--- Assumes nothing.
 use Prim.Native.Nat.{ℕ, _-_, _^_}
 use mathlib.Core.Path.{_≡_, refl}
 use mathlib.Core.List.{List, [], _∷_, map}
@@ -14,15 +13,15 @@ use Rattle.machine.specs.Search.{oneCode, satisfied, matches, marked}
 use Rattle.machine.specs.Pulse.{written, sums, added, wordAfter, flipped, responseAfter, counts, countOf, readOf, pulsed}
 use Rattle.machine.specs.Resolution.{lowest}
 use Rattle.machine.specs.Refusals.{badSize, badWidth, badPanel, badCodes, badLines, badAddress, machineCheck, pulseCheck, answerOf, after, Told, told}
-use Rattle.plans.specs.declared.Span.{Span}
-use Rattle.plans.specs.declared.Job.{Job}
-use Rattle.plans.specs.declared.Held.{Held}
-use Rattle.plans.specs.declared.Held.the-variants.{Nothing, Holds}
+use Rattle.job_plans.specs.declared.Span.{Span}
+use Rattle.job_plans.specs.declared.Job.{Job}
+use Rattle.job_plans.specs.declared.Held.{Held}
+use Rattle.job_plans.specs.declared.Held.the-variants.{Nothing, Holds}
 use Rattle.jobs.specs.declared.Started.{Started}
 use Rattle.jobs.specs.declared.Started.the-variants as started
-use Rattle.plans.specs.Fields.{badExtreme, badScaledAdd, badProduct, badUsed, unusedZero}
-use Rattle.plans.specs.Places.{inTable, badHeld, first, next}
-use Rattle.plans.specs.Commands.{command}
+use Rattle.job_plans.specs.Fields.{badExtreme, badScaledAdd, badProduct, badUsed, unusedZero}
+use Rattle.job_plans.specs.Places.{inTable, badHeld, first, next}
+use Rattle.job_plans.specs.Commands.{command}
 use Rattle.jobs.specs.Calls.{startCheck, startOf, stepCheck, stepOf, afterStep}
 use Rattle.jobs.specs.Runs.{State, stepped, steps, stepsTaken}
 

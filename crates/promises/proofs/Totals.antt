@@ -1,5 +1,4 @@
 -- The console's `total` and `run`: "`total` before any step of a job is the number that `run` then prints."
--- Assumes nothing.
 use Prim.Native.Nat.{ℕ, zero, suc, _≤_, _<_}
 use mathlib.Core.Path.{_≡_, refl, sym, ap, subst, _∙_}
 use mathlib.Core.Bool.{Bool, true, false}
@@ -13,16 +12,16 @@ use Rattle.machine.specs.declared.Refusal.the-variants.{Unfit}
 use Rattle.machine.specs.Machine.{Machine}
 use Rattle.machine.specs.Refusals.{refuse, answerBy}
 use Rattle.machine.proofs.Checks.{else-passed, not-refused}
-use Rattle.plans.specs.declared.Job.{Job}
-use Rattle.plans.specs.declared.Held.{Held}
-use Rattle.plans.specs.declared.Held.the-variants.{Nothing, Holds}
-use Rattle.plans.specs.Places.{first, atFirst, stepCheck}
-use Rattle.plans.proofs.Fair.{used-fields}
-use Rattle.plans.proofs.Standing.{good, fair-held}
-use Rattle.tally.specs.declared.Total.{Total}
-use Rattle.tally.specs.declared.Total.the-variants as total
-use Rattle.tally.specs.Totals.{pulses, badTotal, totalCheck, totalOf}
-use Rattle.tally.proofs.Telling.{total-none}
+use Rattle.job_plans.specs.declared.Job.{Job}
+use Rattle.job_plans.specs.declared.Held.{Held}
+use Rattle.job_plans.specs.declared.Held.the-variants.{Nothing, Holds}
+use Rattle.job_plans.specs.Places.{first, atFirst, stepCheck}
+use Rattle.job_plans.proofs.Fair.{used-fields}
+use Rattle.job_plans.proofs.Standing.{good, fair-held}
+use Rattle.job_tally.specs.declared.Total.{Total}
+use Rattle.job_tally.specs.declared.Total.the-variants as total
+use Rattle.job_tally.specs.Totals.{pulses, badTotal, totalCheck, totalOf}
+use Rattle.job_tally.proofs.Telling.{total-none}
 use Rattle.jobs.specs.declared.Stepped.{Stepped}
 use Rattle.jobs.specs.declared.Stepped.the-variants as answer
 use Rattle.jobs.specs.Calls.{startCheck, stepOf}
@@ -32,10 +31,10 @@ use Rattle.ends.proofs.Starts.{accepted-by}
 use Rattle.ends.proofs.Ends.{course}
 use Rattle.ends.proofs.Firsts.{is-first, few-pulses}
 use Rattle.text.specs.Rows.{fits}
-use Rattle.commands.specs.declared.Board.{Board}
-use Rattle.commands.specs.declared.Outcome.the-variants as outcome
-use Rattle.commands.specs.Ends.{badLine}
-use Rattle.working.specs.Jobs.{oneMore, accepted, most, ran, runTurn, counted, totalOutcome}
+use Rattle.console_commands.specs.declared.Board.{Board}
+use Rattle.console_commands.specs.declared.Outcome.the-variants as outcome
+use Rattle.console_commands.specs.Ends.{badLine}
+use Rattle.console_working.specs.Jobs.{oneMore, accepted, most, ran, runTurn, counted, totalOutcome}
 
 -- ---- steps that give their command until the job is over are the accepted ones
 

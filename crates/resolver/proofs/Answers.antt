@@ -1,5 +1,4 @@
 -- From what a call found to what it answers: turned down, or not.
--- Assumes nothing.
 use Prim.Native.Nat.{ℕ}
 use mathlib.Core.Path.{_≡_, sym, ap, _∙_}
 use Rattle.machine.specs.declared.Found.{Found}

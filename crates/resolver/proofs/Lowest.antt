@@ -1,6 +1,5 @@
 -- Document 01, 'One pulse', Resolution: "The lowest-numbered selected word, or none exactly if no word is selected."
 -- The definitions `lowest` and `resolved` say exactly that, in both directions.
--- Assumes nothing.
 use Prim.Native.Nat.{ℕ, zero, suc, _+_, _<_}
 use mathlib.Core.Path.{_≡_, refl, ap, _∙_}
 use mathlib.Core.Bool.{Bool, true, false}

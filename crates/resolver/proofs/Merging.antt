@@ -1,5 +1,4 @@
 -- The lowest of a list is the lowest of its first part and, where that has none, of the rest: the law of scan and tree.
--- Assumes nothing.
 use Prim.Native.Nat.{ℕ, suc, _+_, _-_, _≤_, _<_}
 use mathlib.Core.Path.{_≡_, refl, sym, ap, ap₂, _∙_}
 use mathlib.Core.Bool.{Bool, true, false}

@@ -1,5 +1,4 @@
 -- What a machine that passes checks 1 to 3 is known to be: 1 to 1,024 words, and as many responses.
--- Assumes nothing.
 use Prim.Native.Nat.{ℕ, _≤_}
 use mathlib.Core.Path.{_≡_, refl}
 use mathlib.Core.Bool.{Bool, true, false, not, _||_}

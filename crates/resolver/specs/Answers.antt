@@ -1,5 +1,4 @@
 -- Document 01, 'One pulse', Resolution, and 'Numbers given when a call is turned down': what resolving answers.
--- Assumes nothing.
 use lib.ListN.{length, getD}
 use mathlib.Core.List.{List}
 use mathlib.Core.Bool.{Bool, true, false}

@@ -1,5 +1,4 @@
 -- What the parts of the scan and of the tree promise: one word by itself, and two runs of words put together.
--- Assumes nothing.
 use Prim.Native.Nat.{ℕ}
 use mathlib.Core.Bool.{Bool, true, false}
 use Rattle.machine.specs.declared.Found.{Found}

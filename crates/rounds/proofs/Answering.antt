@@ -1,5 +1,4 @@
 -- What an answer does: to the bits of its word's response, and to the checks (nothing).
--- Assumes nothing.
 use Prim.Native.Nat.{ℕ, _<_}
 use mathlib.Core.Path.{_≡_, sym, ap, _∙_}
 use mathlib.Core.Bool.{Bool, false}

@@ -1,7 +1,6 @@
 -- Document 01, 'The hand-out round', over show and answer alone: after k accepted answers exactly the lowest k responders have lost X,
 -- the faulty ones among them carry F, every other bit of every response is as before, and the next word shown is responder k (counted
 -- from 0), or none if there were k.
--- Assumes nothing.
 use Prim.Native.Nat.{ℕ, _≤_, _<_}
 use mathlib.Core.Path.{_≡_, ap, ap₂, _∙_}
 use mathlib.Core.List.{List}

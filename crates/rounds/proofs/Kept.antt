@@ -1,5 +1,4 @@
 -- What every run of accepted answers keeps, answer by answer: the argument behind the theorem of Handout.
--- Assumes nothing.
 use Prim.Native.Nat.{ℕ, _+_, _≤_, _<_}
 use mathlib.Core.Path.{_≡_, refl, sym, ap, ap₂, _∙_}
 use mathlib.Core.Bool.{true, false}

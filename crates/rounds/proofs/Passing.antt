@@ -1,5 +1,4 @@
 -- Checks of a round's calls: from the code's branches to the definition, and what is known where they pass.
--- Assumes nothing.
 use Prim.Native.Nat.{ℕ, _<_}
 use mathlib.Core.Path.{_≡_, refl, sym, ap, ap₂, _∙_}
 use mathlib.Core.Bool.{Bool, true, false, not, _||_}

@@ -1,5 +1,4 @@
 -- The list of responders: its first is the lowest, and an answer takes the first off.
--- Assumes nothing.
 use Prim.Native.Nat.{ℕ, zero, suc, _<_}
 use mathlib.Core.Path.{_≡_, refl, ap}
 use mathlib.Core.Bool.{Bool, true, false}

@@ -1,5 +1,4 @@
 -- Document 01, 'The hand-out round': the words that a round is to show, and accepted answers one after another.
--- Assumes nothing.
 use Prim.Native.Nat.{ℕ, suc, _<_}
 use mathlib.Core.Path.{_≡_}
 use mathlib.Core.List.{List, [], _∷_, _++_}

@@ -1,5 +1,4 @@
 -- Document 01, 'The hand-out round': show and answer.
--- Assumes nothing.
 use mathlib.Core.Path.{_≡_}
 use Prim.Native.Nat.{ℕ, _<_}
 use mathlib.Core.Bool.{Bool, true, not, _||_}

@@ -1,5 +1,4 @@
 -- A block of a sweep: the part from i to e, lent to a callee and put back; and response bits by a block's flags, which are those by its words.
--- Assumes nothing.
 use Prim.Native.Nat.{ℕ, suc, _+_, _-_, _≤_, _<_}
 use mathlib.Core.Path.{_≡_, refl, ap, ap₂, _∙_, subst}
 use mathlib.Core.List.{List, [], _∷_, _++_}

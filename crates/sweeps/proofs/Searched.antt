@@ -1,5 +1,4 @@
 -- One block of a search, and of a change of words beside it, in the terms of the lists at entry: beyond i neither list has changed yet.
--- Assumes nothing.
 use Prim.Native.Nat.{ℕ, _+_, _-_, _≤_}
 use mathlib.Core.Path.{_≡_, refl, sym, ap, ap₂, _∙_}
 use mathlib.Core.List.{List, [], _∷_}

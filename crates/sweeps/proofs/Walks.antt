@@ -1,6 +1,5 @@
 -- A walk along a list that changes beside another: after i steps the first i are done and the rest is as it was, so what the code reads next is
 -- what stood there at entry. One step, a block of steps at once, and the end.
--- Assumes nothing.
 use Prim.Native.Nat.{ℕ, zero, suc, _+_, _≤_, _<_, min}
 use mathlib.Core.Path.{_≡_, refl, sym, ap, ap₂, _∙_}
 use mathlib.Core.List.{List, [], _∷_, _++_, append-assoc}

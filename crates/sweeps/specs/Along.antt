@@ -1,5 +1,4 @@
 -- One list changed beside another, and what a sweep gathers from a list.
--- Assumes nothing.
 use Prim.Native.Nat.{ℕ, zero, _+_}
 use mathlib.Core.Bool.{Bool}
 use mathlib.Core.List.{List, [], _∷_}

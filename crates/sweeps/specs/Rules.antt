@@ -1,5 +1,4 @@
 -- What a sweep does to one word or to its response bits, as the code computes it. What the masks stand for is not known here.
--- Assumes nothing.
 use Prim.Native.Nat.{ℕ, _+_, _-_, _%_, _^_}
 use mathlib.Core.Bool.{Bool, true, false, _&&_}
 use lib.Dec.{eqb}

@@ -1,5 +1,4 @@
 -- What each letter asks for, by the definition letterOf.
--- Assumes nothing.
 use Prim.Native.Nat.{ℕ}
 use mathlib.Core.Path.{_≡_}
 use mathlib.Core.List.{List}

@@ -1,5 +1,4 @@
 -- The bytes of a text, in which the names of commands and the words of answers are written down.
--- Assumes nothing.
 use Prim.Native.Nat.{ℕ}
 use Prim.Native.Char.{code}
 use Prim.Native.String.{String, [], _∷_}

@@ -1,5 +1,4 @@
 -- A line's numbers, read by a row of letters, one for each number that a command takes.
--- Assumes nothing.
 use Prim.Native.Nat.{ℕ, _%_}
 use mathlib.Core.Bool.{Bool, true, false, _&&_}
 use mathlib.Core.List.{List, [], _∷_}

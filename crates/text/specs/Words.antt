@@ -1,5 +1,4 @@
 -- The words of a line: "Words of a line stand apart by one or more spaces, and by nothing else."
--- Assumes nothing.
 use Prim.Native.Nat.{ℕ, _+_}
 use mathlib.Core.Bool.{Bool, true, false, not, _&&_}
 use mathlib.Core.List.{List, [], _∷_}

@@ -1,6 +1,5 @@
 -- What a pulse answers and leaves, where nothing is turned down and where something is.
 -- Document 01, 'Numbers given when a call is turned down': "Nothing lent changes; other answer fields are 0."
--- Assumes nothing.
 use Prim.Native.Nat.{ℕ, _<_}
 use mathlib.Core.Path.{_≡_, refl, sym, ap, ap₂, _∙_}
 use mathlib.Core.Bool.{Bool, true, false, _||_}

@@ -1,5 +1,4 @@
 -- What passing the checks shows, check by check. Document 01, 'Numbers given when a call is turned down', 1 to 7.
--- Assumes nothing.
 use Prim.Native.Nat.{ℕ, zero, suc, _^_, _≤_, _<_}
 use mathlib.Core.Path.{_≡_, refl, sym, ap, _∙_}
 use mathlib.Core.Bool.{Bool, true, false, not, _||_}

@@ -1,6 +1,5 @@
 -- All words: what the sweeps leave and count is what the machine's definitions say, with search raised and without; then the addressed word.
 -- Document 01, 'One pulse'.
--- Assumes nothing.
 use Prim.Native.Nat.{ℕ, _^_, _<_}
 use mathlib.Core.Path.{_≡_, refl, sym, ap, ap₂, _∙_}
 use mathlib.Core.List.{List}

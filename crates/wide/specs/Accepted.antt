@@ -1,6 +1,5 @@
 -- What holds once nothing is turned down, and the words' change apart from the addressed word's.
 -- Document 01, 'Numbers given when a call is turned down', 1 to 7; 'One pulse', multiwrite and multiadd.
--- Assumes nothing.
 use Prim.Native.Nat.{ℕ, _^_, _<_}
 use mathlib.Core.Path.{_≡_}
 use mathlib.Core.Bool.{true, _&&_, _||_}

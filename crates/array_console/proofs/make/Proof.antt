@@ -2,7 +2,7 @@ use mathlib.Core.Path.{refl, _∙_}
 use native.Mathlib.Omega.{arith}
 use borrow.Author.Needs.{needs}
 use Rattle.text.specs.Rows.{numberAt, byteAt}
-use Rattle.setting.proofs.Lines.{wrong, plain, read}
+use Rattle.console_setting.proofs.Lines.{wrong, plain, read}
 use Rattle.array_console.specs.declared.Outcome.the-variants as outcome
 use Rattle.array_console.specs.Commands.{ended, freshRack}
 use Rattle.array_console.proofs.make.Statement.{statement}

@@ -2,7 +2,7 @@ use native.Mathlib.Omega.{arith}
 use borrow.Author.Needs.{needs}
 use lib.ListN.{set}
 use Rattle.text.specs.Rows.{numberAt, byteAt}
-use Rattle.setting.proofs.Lines.{unread, past, hits}
+use Rattle.console_setting.proofs.Lines.{unread, past, hits}
 use Rattle.array_console.specs.declared.Outcome.the-variants as outcome
 use Rattle.array_console.proofs.write_selectors.Statement.{statement}
 use Rattle.array_console.proofs.write_selectors.Tie as tie

@@ -1,5 +1,5 @@
 use mathlib.Core.Path.{ap}
-use Rattle.commands.specs.declared.Turn.{Turn}
+use Rattle.console_commands.specs.declared.Turn.{Turn}
 use borrow.Author.Needs.{needs}
 use Rattle.board.proofs.answer.Statement.{statement}
 use Rattle.board.proofs.answer.Tie as tie

@@ -1,5 +1,4 @@
 -- A list that is too short says nothing, which is not done.
--- Assumes nothing.
 use Prim.Native.Nat.{ℕ}
 use mathlib.Core.Path.{ap, sym}
 use lib.Dec.{eqb}

@@ -1,5 +1,4 @@
 -- The host's loop. Invariant: what is answered and what is left to answer give the whole round. Measure: how many words are left.
--- Assumes nothing.
 use Prim.Native.Nat.{ℕ}
 use mathlib.Core.Path.{_≡_, refl}
 use mathlib.Core.Bool.{true}

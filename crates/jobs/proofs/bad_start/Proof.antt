@@ -1,7 +1,7 @@
 use mathlib.Core.Path.{sym, ap, _∙_}
 use mathlib.Core.Bool.{_||_}
-use Rattle.plans.specs.declared.Held.{Held}
-use Rattle.plans.specs.Fields.{badUsed}
+use Rattle.job_plans.specs.declared.Held.{Held}
+use Rattle.job_plans.specs.Fields.{badUsed}
 use Rattle.jobs.specs.Calls.{isHeld}
 use borrow.Author.Needs.{needs}
 use Rattle.jobs.proofs.bad_start.Statement.{statement}

@@ -1,5 +1,5 @@
 use Rattle.machine.specs.Machine.{machine}
-use Rattle.plans.proofs.Standing as standing
+use Rattle.job_plans.proofs.Standing as standing
 use Rattle.jobs.proofs.Giving as giving
 use borrow.Author.Needs.{needs}
 use Rattle.jobs.proofs.give.Statement.{statement}

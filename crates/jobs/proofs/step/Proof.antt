@@ -1,7 +1,7 @@
-use Rattle.plans.specs.Places.{stepCheck}
+use Rattle.job_plans.specs.Places.{stepCheck}
 use mathlib.Core.Path.{sym, ap, _∙_}
 use Rattle.machine.specs.Machine.{machine}
-use Rattle.plans.proofs.Standing as standing
+use Rattle.job_plans.proofs.Standing as standing
 use Rattle.jobs.proofs.Giving as giving
 use borrow.Author.Needs.{needs}
 use Rattle.jobs.proofs.step.Statement.{statement}

@@ -1,5 +1,5 @@
 -- `panel::load_own` meets its contract: a walk of its MIR, by hand. The panel is copied to a local, one arm of the switch lends that local to its thin load (`Own.antt`), and the local is the result.
--- Of the nine loads the proof knows only that each meets its contract. Assumes nothing.
+-- Of the nine loads the proof knows only that each meets its contract.
 use mathlib.Core.Path.{_≡_, refl, sym, subst}
 use Prim.Native.Nat.{ℕ, _≤_, _+_}
 use native.Mathlib.Omega.{arith}

@@ -1,5 +1,4 @@
 -- `panel::load_sdr` meets its contract: the walk of a thin load (`Thin.antt`), over the load by value.
--- Assumes nothing.
 use mathlib.Core.Path.{_≡_}
 use mir.Syntax.{w64}
 use contract.Running.{givenOf, tables, tablesOf}

@@ -1,5 +1,4 @@
 -- `resolver::tree` calls itself on the two halves: the length falls, and the answers of the halves merge to the lowest of all.
--- Assumes nothing.
 use Prim.Native.Nat.{ℕ, _<_, _≤_, _/_}
 use mathlib.Core.Path.{_≡_, sym, ap, _∙_}
 use native.Mathlib.Omega.{arith}

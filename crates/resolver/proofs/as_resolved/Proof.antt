@@ -1,5 +1,4 @@
 -- A word that was found is answered as it is.
--- Assumes nothing.
 use mathlib.Core.Path.{ap, sym}
 use borrow.Author.Needs.{needs}
 use Rattle.resolver.specs.Answers.{asResolved}

@@ -1,5 +1,4 @@
 -- All bits at once is each bit by itself.
--- Assumes nothing.
 use mathlib.Core.Path.{sym}
 use native.Mathlib.Omega.{arith}
 use Rattle.machine.proofs.Masks.{selected-is}

@@ -1,5 +1,4 @@
 -- Invariant: what was found below i, merged with the lowest from i on, is the lowest of all. Measure: the words not yet asked.
--- Assumes nothing.
 use Prim.Native.Nat.{_+_, _≤_, _-_}
 use mathlib.Core.Path.{_≡_, refl, sym, ap, _∙_}
 use lib.ListN.{length, drop}

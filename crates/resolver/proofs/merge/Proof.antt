@@ -1,5 +1,4 @@
 -- The lower answer counts where there is one.
--- Assumes nothing.
 use mathlib.Core.Path.{ap, sym}
 use borrow.Author.Needs.{needs}
 use Rattle.machine.specs.declared.Found.{Found}

@@ -1,5 +1,4 @@
 -- The checks, then the tree: at most 1,024 words pass the checks, so no word number overflows.
--- Assumes nothing.
 use mathlib.Core.Path.{sym, _∙_}
 use native.Mathlib.Omega.{arith}
 use borrow.Author.Needs.{needs}

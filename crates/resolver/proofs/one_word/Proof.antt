@@ -1,5 +1,4 @@
 -- A selected word answers its own number.
--- Assumes nothing.
 use Rattle.resolver.proofs.one_word.Statement.{statement}
 use Rattle.resolver.proofs.one_word.Tie as tie
 

@@ -1,5 +1,4 @@
 -- The checks; then the one word that passes them is within the buffer, and its response is stored.
--- Assumes nothing.
 use borrow.Author.Needs.{needs}
 use Rattle.machine.specs.Machine.{machine}
 use Rattle.rounds.proofs.Passing.{accepted-by, answer-refused, answer-taken}

@@ -1,5 +1,4 @@
 -- 1 to 3, then 8.
--- Assumes nothing.
 use borrow.Author.Needs.{needs}
 use Rattle.machine.specs.Machine.{machine}
 use Rattle.machine.specs.Refusals.{machineCheck}

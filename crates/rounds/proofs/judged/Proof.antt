@@ -1,5 +1,4 @@
 -- An answer by masks is the answer bit by bit.
--- Assumes nothing.
 use mathlib.Core.Path.{ap, sym, _∙_}
 use borrow.Author.Needs.{needs}
 use Rattle.rounds.specs.declared.Verdict.{Verdict}

@@ -1,5 +1,4 @@
 -- Having bit X is being selected with X as key and care.
--- Assumes nothing.
 use mathlib.Core.Path.{_∙_}
 use borrow.Author.Needs.{needs}
 use Rattle.rounds.proofs.Marks.{lowest-mask}

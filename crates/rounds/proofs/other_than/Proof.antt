@@ -1,5 +1,4 @@
 -- The word differs from the one found; from none, every word does.
--- Assumes nothing.
 use mathlib.Core.Path.{ap, sym}
 use borrow.Author.Needs.{needs}
 use Rattle.rounds.specs.Round.{otherThan}

@@ -1,5 +1,4 @@
 -- The checks, then the lowest word that has X.
--- Assumes nothing.
 use mathlib.Core.Path.{sym, _∙_}
 use borrow.Author.Needs.{needs}
 use Rattle.machine.specs.Machine.{machine}

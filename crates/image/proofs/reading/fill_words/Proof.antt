@@ -5,8 +5,8 @@ use native.Mathlib.Nat.{sub-zero}
 use lib.ListN.{length, drop, length-set}
 use lib.Seq.{sets}
 use borrow.Author.Needs.{needs}
-use Rattle.layout.specs.Reading.{numbers}
-use Rattle.stores.proofs.Storing.{fill-words-turn, fill-none}
+use Rattle.image_layout.specs.Reading.{numbers}
+use Rattle.image_stores.proofs.Storing.{fill-words-turn, fill-none}
 use Rattle.image.proofs.reading.fill_words.Statement.{statement}
 use Rattle.image.proofs.reading.fill_words.Tie as tie
 

@@ -1,9 +1,9 @@
 use Prim.Native.Nat.{_+_, _*_}
 use mathlib.Core.Path.{sym, ap}
 use native.Mathlib.Omega.{arith}
-use Rattle.layout.specs.Format.{heldJobs}
+use Rattle.image_layout.specs.Format.{heldJobs}
 use lib.ListN.{length}
-use Rattle.plans.specs.declared.Held.{Held}
+use Rattle.job_plans.specs.declared.Held.{Held}
 use borrow.Author.Needs.{needs}
 use Rattle.image.proofs.writing.held_length.Statement.{statement}
 use Rattle.image.proofs.writing.held_length.Tie as tie

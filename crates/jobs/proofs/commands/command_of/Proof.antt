@@ -1,6 +1,6 @@
 use mathlib.Core.Path.{_∙_}
-use Rattle.plans.specs.Commands.{look, trial, second}
-use Rattle.plans.proofs.Fair.{room}
+use Rattle.job_plans.specs.Commands.{look, trial, second}
+use Rattle.job_plans.proofs.Fair.{room}
 use Rattle.jobs.proofs.Phases as phases
 use borrow.Author.Needs.{needs}
 use Rattle.jobs.proofs.commands.command_of.Statement.{statement}

@@ -1,4 +1,4 @@
-use Rattle.plans.proofs.Shifts as shifts
+use Rattle.job_plans.proofs.Shifts as shifts
 use borrow.Author.Needs.{needs}
 use Rattle.jobs.proofs.commands.response_bit.Statement.{statement}
 use Rattle.jobs.proofs.commands.response_bit.Tie as tie

@@ -2,11 +2,11 @@ use Prim.Native.Nat.{ℕ}
 use mathlib.Core.Path.{ap, ap₂, _∙_}
 use native.Mathlib.Omega.{arith}
 use lib.Bits.{bitOr}
-use Rattle.plans.specs.declared.Command.{Command}
-use Rattle.plans.specs.Fields.{Kind}
-use Rattle.plans.specs.Commands.{look, trial}
-use Rattle.plans.proofs.ByKind.{as-kind, as-unknown}
-use Rattle.plans.proofs.Fair.{room}
+use Rattle.job_plans.specs.declared.Command.{Command}
+use Rattle.job_plans.specs.Fields.{Kind}
+use Rattle.job_plans.specs.Commands.{look, trial}
+use Rattle.job_plans.proofs.ByKind.{as-kind, as-unknown}
+use Rattle.job_plans.proofs.Fair.{room}
 use borrow.Author.Needs.{needs}
 use Rattle.jobs.proofs.commands.trial.Statement.{statement}
 use Rattle.jobs.proofs.commands.trial.Tie as tie

@@ -1,0 +1,74 @@
+use Prim.Native.Nat.{_+_, _-_, _*_, _≤_}
+use mathlib.Core.Path.{_≡_, refl, sym, _∙_}
+use native.Mathlib.Omega.{arith}
+use lib.ListN.{length, drop}
+use lib.Seq.{sets}
+use borrow.Author.Needs.{needs}
+use Rattle.image_layout.specs.Format.{bytes, items}
+use Rattle.image_stores.proofs.Storing.{words-turn, words-none}
+use Rattle.image_stores.proofs.put_words.Statement.{statement}
+use Rattle.image_stores.proofs.put_words.Tie as tie
+
+abbrev Inv-loop : tie.InvT-loop
+Inv-loop out₀ at words p₀ i₀ out p i =
+    (i ≤ length words) × (p ≡ at + 8 * i) × (length out ≡ length out₀) × (sets out p (items (bytes 8) (drop i words)) ≡ sets out₀ at (items (bytes 8) words))
+
+abbrev μ-loop : tie.MeasureT-loop
+μ-loop out₀ at words p₀ i₀ out p i = length words - i
+
+loop-holds : tie.Need-loop-holds Inv-loop μ-loop
+loop-holds c = (omega arith, omega arith, refl, refl)
+
+mul-put : tie.Need-mul-put Inv-loop μ-loop
+mul-put c = search needs
+
+shared-slice-read-put : tie.Need-shared-slice-read-put Inv-loop μ-loop
+shared-slice-read-put c = search needs
+
+put-requires : tie.Need-put-requires Inv-loop μ-loop
+put-requires c κs = search needs
+
+add-i : tie.Need-add-i Inv-loop μ-loop
+add-i c = omega arith
+
+loop-less : tie.Need-loop-less Inv-loop μ-loop
+loop-less c = omega arith
+
+loop-again : tie.Need-loop-again Inv-loop μ-loop
+loop-again c =
+    let l = c .before .before .before .before .before .before .loop in
+    let a = c .before .before .before .before .before .before .before .before .before .args in
+    let r = c .before .before .put in
+    let e : length (r .last .0) ≡ length (l .out) = r .kept .0 in
+    let f : r .result ≡ l .p + 8 = r .ensures .0 in (
+      omega arith,
+      omega arith,
+      omega arith,
+      rw (r .ensures .1, f) (sym (words-turn (l .out) (l .p) (a .words .now) (l .i) (search needs)) ∙ l .inv .3),
+    )
+
+same-length : tie.Need-same-length Inv-loop μ-loop
+same-length c = search needs
+
+returns : tie.Need-returns Inv-loop μ-loop
+returns c =
+    let l = c .before .loop in
+    let a = c .before .before .before .before .args in
+    let e : l .i ≡ length (a .words .now) = omega arith in
+    (omega arith, sym (words-none (l .out) (l .p) (a .words .now)) ∙ rw e at (l .inv .3))
+
+pub put-words-spec : {M : Type 1} → statement M
+put-words-spec =
+    tie.close
+    (tie.spec
+    Inv-loop
+    μ-loop
+    loop-holds
+    mul-put
+    shared-slice-read-put
+    put-requires
+    add-i
+    loop-less
+    loop-again
+    same-length
+    returns)

@@ -1,0 +1,24 @@
+use mathlib.Core.Path.{sym, ap, _∙_}
+use Rattle.job_plans.specs.Places.{badStep}
+use borrow.Author.Needs.{needs}
+use Rattle.job_places.proofs.bad_step.Statement.{statement}
+use Rattle.job_places.proofs.bad_step.Tie as tie
+
+enum-told : tie.Need-enum-told
+enum-told c = search needs
+
+enum-known-held : tie.Need-enum-known-held
+enum-known-held c = search needs
+
+bad-held-requires : tie.Need-bad-held-requires
+bad-held-requires c κs = search needs
+
+returns : tie.Need-returns
+returns c = search needs
+
+returns-2 : tie.Need-returns-2
+returns-2 c =
+    let a = c .before .before .before .before .args in c .bad-held .ensures ∙ ap (badStep (a .width)) (sym (c .before .before .held .given .1))
+
+pub bad-step-spec : {M : Type 1} → statement M
+bad-step-spec = tie.close (tie.spec enum-told enum-known-held bad-held-requires returns returns-2)
