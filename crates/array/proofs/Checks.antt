@@ -12,7 +12,7 @@ use Rattle.machine.specs.declared.WordSlice.{WordSlice}
 use Rattle.machine.specs.declared.Found.{Found}
 use Rattle.machine.specs.declared.Found.the-variants.{At, Nothing}
 use Rattle.machine.specs.Refusals.{badSize, badWidth, tooWide}
-use Rattle.machine.proofs.Checks as machine
+use Rattle.machine.proofs.Refusals as machine
 use Rattle.array.specs.declared.Registers.{Registers}
 use Rattle.array.specs.declared.Refusal.{Refusal}
 use Rattle.array.specs.declared.Refusal.the-variants.{Size, Width, WordTooWide, NoCell, RegisterTooWide}

@@ -19,7 +19,7 @@ use Rattle.machine.specs.declared.Code.{Code}
 use Rattle.machine.specs.declared.Code.the-variants.{DontCare, Exact}
 use Rattle.machine.specs.Machine.{responseBits, Syllable, syllables, tops, selected}
 use Rattle.machine.specs.Search.{code, codeAt, cared, asks, readOver, satisfied, matches}
-use Rattle.machine.proofs.Tops.{Tiled, syllables-tile}
+use Rattle.machine.proofs.Machine.{Tiled, syllables-tile}
 use Rattle.array.specs.declared.Cell.the-variants.{X}
 use Rattle.array.specs.declared.Registers.{Registers}
 use Rattle.array.specs.declared.Source.{Source}

@@ -18,7 +18,7 @@ use Rattle.machine.specs.Search.{oneCode, matches, marked}
 use Rattle.machine.specs.Cells.{cellsMatch}
 use Rattle.machine.specs.Pulse.{written, added, change, wordAfter, flipped, responseAfter, counts, countOf, readOf, pulsed}
 use Rattle.machine.specs.Refusals.{badCodes, pulseCheck, answerOf, after}
-use Rattle.machine.proofs.Statuses.{cells-match}
+use Rattle.machine.proofs.Cells.{cells-match}
 
 -- ---- one word
 

@@ -15,7 +15,7 @@ use Rattle.machine.specs.declared.Panel.{Panel}
 use Rattle.machine.specs.Machine.{Syllable, isTop, bottom, downFrom, keep, tops}
 use Rattle.machine.specs.Pulse.{addend, sums, added}
 use Rattle.machine.proofs.Sums.{cells-add}
-use Rattle.machine.proofs.Tops.{bottom-le, bottom-on, bottom-off}
+use Rattle.machine.proofs.Machine.{bottom-le, bottom-on, bottom-off}
 use Rattle.chains.specs.Walks.{kept, keptAt}
 
 pub kept-lt : (p : Panel) (w : ℕ) (y : Syllable) → kept p w y < 2 ^ y .width

@@ -2,14 +2,14 @@
 // The commands stand in `setting`, `pulsing`, `working` and `storing`: each takes the rest of its line apart, gives it to the
 // library and hands back the library's answer, to be printed. docs/BOARD.md has the language. "The console checks nothing that
 // document 01 gives a refusal for": what a command turns down itself is a line that is none of its own.
-use machine::BitSlice;
-use machine::Panel;
-use machine::Refusal;
-use machine::WordSlice;
 use job_plans::Command;
 use job_plans::Held;
 use job_plans::Job;
 use job_plans::Span;
+use machine::BitSlice;
+use machine::Panel;
+use machine::Refusal;
+use machine::WordSlice;
 use text::numbers;
 ghost use mathlib.Core.Path.{_≡_};
 ghost use Prim.Native.Nat.{_%_};

@@ -1,7 +1,7 @@
 // What the console prints of each outcome: one line, but for the list. docs/BOARD.md has the language.
 use console_commands::Outcome;
-use machine::Panel;
 use job_plans::Command;
+use machine::Panel;
 ghost use mathlib.Core.List.{_∷_, [], _++_};
 ghost use Rattle.laws.specs.Bits.{pick};
 ghost use Rattle.text.specs.Ascii.{ascii};

@@ -51,7 +51,13 @@ pub fn store(
 }
 
 // list
-pub fn list(board: Board, rest: &[u8], words: &[u64], responses: &[Response], bytes: &mut [u8]) -> Outcome
+pub fn list(
+    board: Board,
+    rest: &[u8],
+    words: &[u64],
+    responses: &[Response],
+    bytes: &mut [u8],
+) -> Outcome
     ensures { λ r. ⌜ r ≡ images.listOutcome (wordsOf (now (rest .entry))) (state (board .width) (now (words .entry)) (now (responses .entry)) (board .held)) (length (now (bytes .entry))) ⌝ }
     ensures { λ _. ⌜ now (bytes .exit) ≡ images.stored (wordsOf (now (rest .entry))) (state (board .width) (now (words .entry)) (now (responses .entry)) (board .held)) (now (bytes .entry)) ⌝ }
 {
@@ -66,7 +72,13 @@ pub fn list(board: Board, rest: &[u8], words: &[u64], responses: &[Response], by
 }
 
 // room K
-pub fn room(board: Board, rest: &[u8], words: &[u64], responses: &[Response], bytes: &mut [u8]) -> Outcome
+pub fn room(
+    board: Board,
+    rest: &[u8],
+    words: &[u64],
+    responses: &[Response],
+    bytes: &mut [u8],
+) -> Outcome
     ensures { λ r. ⌜ r ≡ images.roomOutcome (wordsOf (now (rest .entry))) (state (board .width) (now (words .entry)) (now (responses .entry)) (board .held)) (length (now (bytes .entry))) ⌝ }
     ensures { λ _. ⌜ now (bytes .exit) ≡ images.roomWritten (wordsOf (now (rest .entry))) (state (board .width) (now (words .entry)) (now (responses .entry)) (board .held)) (now (bytes .entry)) ⌝ }
 {

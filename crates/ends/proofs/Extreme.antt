@@ -9,7 +9,7 @@ use Rattle.laws.specs.Bits.{bit}
 use Rattle.laws.proofs.Digits.{Bit, off, on as lit}
 use Rattle.laws.proofs.Bits.{digit-at}
 use Rattle.machine.specs.Machine.{Machine}
-use Rattle.machine.proofs.Checks.{Sound}
+use Rattle.machine.proofs.Refusals.{Sound}
 use Rattle.job_plans.specs.declared.Job.{Job}
 use Rattle.job_plans.specs.declared.Held.the-variants.{Nothing, Holds}
 use Rattle.job_plans.specs.Places.{badHeld, moved, nextBelow}

@@ -8,7 +8,7 @@ use lib.Dec.{leb, ltb, eqb}
 use borrow.Author.Tests.{ltb-false, leb-false, eqb-false}
 use Rattle.laws.specs.Bits.{bit}
 use Rattle.machine.specs.Machine.{responseBits}
-use Rattle.machine.proofs.Checks.{or-left, or-right}
+use Rattle.machine.proofs.Refusals.{or-left, or-right}
 use Rattle.job_plans.specs.declared.Span.{Span}
 use Rattle.job_plans.specs.declared.Job.{Job}
 use Rattle.job_plans.specs.Fields.{badSyllable, overlaps, badWorkingBit, badExtreme, badScaledAdd, badProduct}

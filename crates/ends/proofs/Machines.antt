@@ -16,7 +16,7 @@ use Rattle.machine.specs.Machine.{Machine}
 use Rattle.machine.specs.Pulse.{wordAfter, responseAfter, pulsed}
 use Rattle.machine.specs.Resolution.{lowest}
 use Rattle.machine.specs.Refusals.{badSize, tooWide, machineCheck}
-use Rattle.machine.proofs.Checks.{Sound, size-same, width-pos}
+use Rattle.machine.proofs.Refusals.{Sound, size-same, width-pos}
 use Rattle.ends.specs.Ends.{word, response}
 
 -- ---- words of the machine's width

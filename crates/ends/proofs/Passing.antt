@@ -10,7 +10,7 @@ use lib.ListN.{length, getD}
 use Rattle.laws.specs.Bits.{bit, pick, digit}
 use Rattle.machine.specs.Machine.{Machine, responseBits, selected}
 use Rattle.machine.specs.Pulse.{pulsed, added}
-use Rattle.machine.proofs.Checks.{Sound}
+use Rattle.machine.proofs.Refusals.{Sound}
 use Rattle.job_plans.specs.declared.Job.{Job}
 use Rattle.job_plans.specs.declared.Command.{Command}
 use Rattle.job_plans.specs.Commands.{look, plus}

@@ -10,7 +10,7 @@ use Rattle.laws.specs.Lists.{count}
 use Rattle.laws.proofs.Lists.{zip-kept}
 use Rattle.machine.specs.Machine.{Machine, responseBits, selected}
 use Rattle.machine.specs.Pulse.{counts, countOf, pulsed}
-use Rattle.machine.proofs.Checks.{Sound}
+use Rattle.machine.proofs.Refusals.{Sound}
 use Rattle.job_plans.specs.declared.Command.{Command}
 use Rattle.job_plans.specs.Commands.{look}
 use Rattle.ends.specs.Ends.{word, response, SameSize}

@@ -10,7 +10,7 @@ use Rattle.laws.specs.Bits.{bit}
 use Rattle.laws.proofs.Digits.{tri}
 use Rattle.laws.proofs.Bits.{bit-none}
 use Rattle.machine.specs.Machine.{Syllable, isTop, bottom, downFrom, keep, tops, syllables}
-use Rattle.machine.proofs.Tops.{bottom-on, bottom-off}
+use Rattle.machine.proofs.Machine.{bottom-on, bottom-off}
 use Rattle.ends.proofs.Agreeing.{one-here, one-there}
 
 -- a syllable from its lowest bit and its width

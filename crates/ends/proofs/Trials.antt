@@ -9,7 +9,7 @@ use lib.ListN.{length, getD}
 use Rattle.laws.specs.Bits.{bit, pick, digit}
 use Rattle.laws.proofs.Bits.{bit-none}
 use Rattle.machine.specs.Machine.{Machine, responseBits, selected}
-use Rattle.machine.proofs.Checks.{Sound}
+use Rattle.machine.proofs.Refusals.{Sound}
 use Rattle.job_plans.specs.declared.Job.{Job}
 use Rattle.job_plans.specs.declared.Held.the-variants.{Holds}
 use Rattle.job_plans.specs.Places.{badHeld, moved, nextBelow, next}

@@ -7,7 +7,7 @@ use native.Mathlib.Omega.{arith}
 use lib.ListN.{length}
 use Rattle.laws.specs.Bits.{bit, digit}
 use Rattle.machine.specs.Machine.{Machine}
-use Rattle.machine.proofs.Checks.{Sound}
+use Rattle.machine.proofs.Refusals.{Sound}
 use Rattle.job_plans.specs.declared.Job.{Job}
 use Rattle.job_plans.specs.declared.Held.{Held}
 use Rattle.job_plans.specs.declared.Held.the-variants.{Nothing, Holds}

@@ -13,7 +13,7 @@ use borrow.Author.Tests.{eq-eqb, ne-eqb}
 use Rattle.laws.specs.Bits.{bit}
 use Rattle.laws.proofs.Digits.{Bit, off, on, low}
 use Rattle.machine.specs.Machine.{Syllable, bottom, keep, tops, syllables}
-use Rattle.machine.proofs.Tops.{bottom-on, bottom-off}
+use Rattle.machine.proofs.Machine.{bottom-on, bottom-off}
 use Rattle.fields.specs.Fields.{grow, fields}
 use Rattle.fields.proofs.Above.{grow-cons}
 

@@ -15,8 +15,8 @@ use Rattle.machine.specs.declared.Check.the-variants.{Passed}
 use Rattle.machine.specs.Machine.{Machine, Syllable, syllables, selected, over}
 use Rattle.machine.specs.Pulse.{written, addend, sums, added, change, wordAfter, pulsed}
 use Rattle.machine.specs.Refusals.{machineCheck}
-use Rattle.machine.proofs.Tops.{Tiled, syllables-tile}
-use Rattle.machine.proofs.Checks.{sound}
+use Rattle.machine.proofs.Machine.{Tiled, syllables-tile}
+use Rattle.machine.proofs.Refusals.{sound}
 use Rattle.ends.proofs.Machines.{passes, pos, sound-after}
 use Rattle.hosts.proofs.Below.{bit-below, either-below}
 

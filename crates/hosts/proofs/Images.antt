@@ -14,7 +14,7 @@ use Rattle.machine.specs.declared.Check.the-variants as check
 use Rattle.machine.specs.declared.Refusal.the-variants.{Unfit, NoRoom}
 use Rattle.machine.specs.Machine.{machine}
 use Rattle.machine.specs.Refusals.{_else_, refuse, machineCheck, answerBy, changeBy}
-use Rattle.machine.proofs.Checks.{else-passed, not-refused, or-left, or-right}
+use Rattle.machine.proofs.Refusals.{else-passed, not-refused, or-left, or-right}
 use Rattle.job_plans.specs.declared.Held.{Held}
 use Rattle.jobs.specs.Runs.{State}
 use Rattle.image.specs.declared.Wrote.{Wrote}

@@ -13,7 +13,7 @@ use Rattle.machine.specs.declared.Check.the-variants as check
 use Rattle.machine.specs.declared.Refusal.the-variants.{Unfit}
 use Rattle.machine.specs.Machine.{Machine}
 use Rattle.machine.specs.Refusals.{machineCheck, answerBy}
-use Rattle.machine.proofs.Checks.{sound, else-passed, not-refused}
+use Rattle.machine.proofs.Refusals.{sound, else-passed, not-refused}
 use Rattle.job_plans.specs.declared.Job.{Job}
 use Rattle.job_plans.specs.declared.Held.{Held}
 use Rattle.job_plans.specs.declared.Held.the-variants.{Nothing, Holds}

@@ -17,7 +17,7 @@ use Rattle.machine.specs.Machine.{Machine, responseBits, selected}
 use Rattle.machine.specs.Search.{matches, marked}
 use Rattle.machine.specs.Pulse.{flipped, responseAfter, pulsed}
 use Rattle.machine.specs.Refusals.{machineCheck, pulseCheck, changeBy, after, answerBy}
-use Rattle.machine.proofs.Checks.{sound, clean, else-passed, not-refused, or-right}
+use Rattle.machine.proofs.Refusals.{sound, clean, else-passed, not-refused, or-right}
 use Rattle.job_plans.specs.declared.Held.{Held}
 use Rattle.job_plans.specs.declared.Held.the-variants.{Holds}
 use Rattle.job_plans.specs.declared.Command.{Command}

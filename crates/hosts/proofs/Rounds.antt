@@ -14,7 +14,7 @@ use Rattle.machine.specs.declared.Refusal.the-variants.{Unfit}
 use Rattle.machine.specs.declared.Check.{Check}
 use Rattle.machine.specs.declared.Found.{Found}
 use Rattle.machine.specs.declared.Check.the-variants.{Passed}
-use Rattle.machine.proofs.Checks.{sound, else-passed}
+use Rattle.machine.proofs.Refusals.{sound, else-passed}
 use Rattle.ends.proofs.Machines.{same}
 use Rattle.machine.specs.Machine.{Machine, machine, responseBits}
 use Rattle.machine.specs.Refusals.{refuse, machineCheck, answerBy}

@@ -12,7 +12,7 @@ use Rattle.machine.specs.declared.Refusal.{Refusal}
 use Rattle.machine.specs.declared.Refusal.the-variants.{Malformed, NoRoom}
 use Rattle.machine.specs.declared.Check.{Check}
 use Rattle.machine.specs.declared.Check.the-variants.{Passed, Refused}
-use Rattle.machine.proofs.Checks.{else-passed, not-refused, or-left, or-right}
+use Rattle.machine.proofs.Refusals.{else-passed, not-refused, or-left, or-right}
 use Rattle.job_plans.specs.declared.Held.{Held}
 use Rattle.job_plans.specs.declared.Held.the-variants.{Nothing, Holds}
 use Rattle.image_layout.specs.declared.Scanned.{Scanned}

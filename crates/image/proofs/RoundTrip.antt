@@ -12,7 +12,7 @@ use lib.Seq.{take-at, drop-at, drop-drop}
 use borrow.Author.Tests.{le-leb, eq-eqb, ltb-false, eqb-false}
 use Rattle.laws.specs.Bits.{pick}
 use Rattle.machine.specs.Refusals.{badSize, badWidth}
-use Rattle.machine.proofs.Checks as checks
+use Rattle.machine.proofs.Refusals as checks
 use Rattle.job_plans.specs.declared.Job.{Job}
 use Rattle.job_plans.specs.declared.Held.{Held}
 use Rattle.job_plans.specs.declared.Held.the-variants.{Nothing, Holds}

@@ -14,7 +14,7 @@ use Rattle.machine.specs.declared.Check.{Check}
 use Rattle.machine.specs.declared.Check.the-variants.{Passed, Refused}
 use Rattle.machine.specs.Machine.{Machine}
 use Rattle.machine.specs.Refusals.{refuse, machineCheck}
-use Rattle.machine.proofs.Checks.{sound, size-same, else-passed, not-refused}
+use Rattle.machine.proofs.Refusals.{sound, size-same, else-passed, not-refused}
 use Rattle.job_plans.specs.declared.Held.{Held}
 use Rattle.job_plans.specs.declared.Held.the-variants.{Nothing, Holds}
 use Rattle.jobs.specs.Runs.{State}

@@ -4,8 +4,8 @@ pub mod reading;
 pub mod writing;
 
 pub use image_layout::Scanned;
-use machine::Refusal;
 use job_plans::Held;
+use machine::Refusal;
 
 // What writing answers: the image's length.
 pub enum Wrote {

@@ -2,10 +2,10 @@
 // Document 01, 'The image' and 'Numbers given when a call is turned down'.
 use crate::Read;
 use image_layout::Scanned;
+use image_parts::fields;
 use machine::Check;
 use machine::Refusal;
 use machine::Response;
-use image_parts::fields;
 ghost use mathlib.Core.Path.{_≡_};
 ghost use Prim.Native.Nat.{_+_, _*_, _≤_};
 ghost use lib.ListN.{length, drop};

@@ -1,12 +1,12 @@
 // Writing: "checked .. for 1 to 3, 8 and 10"; it changes "only the image's own bytes".
 // Document 01, 'The image' and 'Numbers given when a call is turned down'.
 use crate::Wrote;
+use image_stores::put_held;
+use image_stores::put_machine;
+use job_plans::Held;
 use machine::Check;
 use machine::Refusal;
 use machine::Response;
-use job_plans::Held;
-use image_stores::put_held;
-use image_stores::put_machine;
 ghost use mathlib.Core.Path.{_≡_};
 ghost use Prim.Native.Nat.{_+_, _*_, _≤_};
 ghost use lib.ListN.{length};

@@ -2,10 +2,10 @@
 // Document 01, 'The image' and number 9: "the offset of the first field, read in order, that is cut off or breaks a rule (a job is one
 // field), or of the first byte too many".
 use image_layout::Scanned;
-use machine::BitSlice;
 use job_plans::Held;
 use job_plans::Job;
 use job_plans::Span;
+use machine::BitSlice;
 ghost use mathlib.Core.Path.{_≡_};
 ghost use mathlib.Core.List.{List, [], _++_};
 ghost use Prim.Native.Nat.{ℕ, _+_, _*_, _<_, _≤_};

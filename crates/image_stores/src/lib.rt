@@ -1,8 +1,8 @@
 // The image's bytes, stored part after part: each function stores its own bytes and no other, and answers the next place.
 // Document 01, 'The image'.
-use machine::Response;
 use job_plans::Held;
 use job_plans::Job;
+use machine::Response;
 ghost use mathlib.Core.Path.{_≡_};
 ghost use Prim.Native.Nat.{ℕ, _+_, _*_, _<_, _≤_};
 ghost use lib.ListN.{length, getD};

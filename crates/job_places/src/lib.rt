@@ -1,13 +1,13 @@
 // The places of a job: which are in the table, the first, and the one after a pulse; and number 8 of a held job.
 // Document 01: 'Jobs', 'The image' (phase, i and j) and number 8. The definitions are in `plans`.
-use machine::BitSlice;
-use machine::Check;
-use machine::Refusal;
-use machine::Response;
 use job_plans::Held;
 use job_plans::Job;
 use job_plans::Span;
 use job_plans::fields;
+use machine::BitSlice;
+use machine::Check;
+use machine::Refusal;
+use machine::Response;
 ghost use mathlib.Core.Path.{_≡_};
 ghost use Prim.Native.Nat.{_+_, _-_, _<_};
 ghost use lib.Dec.{eqb};

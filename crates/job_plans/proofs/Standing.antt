@@ -7,7 +7,7 @@ use Rattle.machine.specs.declared.Refusal.the-variants.{Unfit}
 use Rattle.machine.specs.declared.Check.the-variants.{Passed}
 use Rattle.machine.specs.Machine.{Machine}
 use Rattle.machine.specs.Refusals.{refuse, machineCheck}
-use Rattle.machine.proofs.Checks.{else-passed, not-refused, sound, width-le}
+use Rattle.machine.proofs.Refusals.{else-passed, not-refused, sound, width-le}
 use Rattle.job_plans.specs.declared.Job.{Job}
 use Rattle.job_plans.specs.declared.Held.{Held}
 use Rattle.job_plans.specs.declared.Held.the-variants.{Nothing, Holds}

@@ -1,14 +1,14 @@
 // Document 01, 'Jobs': the number of pulses a job takes, told while it stands at its first place.
 use crate::Total;
-use machine::Check;
-use machine::Refusal;
-use machine::Response;
 use job_places::check_step;
 use job_places::is_at_first;
 use job_plans::Held;
 use job_plans::Job;
 use job_plans::Span;
 use job_plans::low_bits;
+use machine::Check;
+use machine::Refusal;
+use machine::Response;
 ghost use mathlib.Core.Path.{_≡_};
 ghost use mathlib.Core.Bool.{Bool, true, false};
 ghost use Prim.Native.Nat.{ℕ, _+_, _-_, _*_, _^_, _≤_, _<_, min, max};

@@ -1,12 +1,12 @@
 // Document 01, 'Jobs': the command at each place of a job. "Registers not mentioned are 0 in its commands."
-use machine::Lines;
-use machine::Panel;
-use machine::Response;
-use machine::WordSlice;
 use job_plans::Command;
 use job_plans::Job;
 use job_plans::Span;
 use job_plans::low_bits;
+use machine::Lines;
+use machine::Panel;
+use machine::Response;
+use machine::WordSlice;
 ghost use mathlib.Core.Path.{_≡_};
 ghost use mathlib.Core.Bool.{false};
 ghost use Prim.Native.Nat.{_+_, _-_, _*_, _%_, _^_, _≤_, _<_};

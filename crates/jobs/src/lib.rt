@@ -4,10 +4,6 @@
 mod commands;
 pub mod totals;
 
-use machine::Answer;
-use machine::Check;
-use machine::Refusal;
-use machine::Response;
 pub use job_places::bad_held;
 use job_places::check_step;
 use job_places::first_of;
@@ -18,6 +14,10 @@ pub use job_plans::Job;
 pub use job_plans::Span;
 use job_plans::fields::bad_used;
 pub use job_tally::Total;
+use machine::Answer;
+use machine::Check;
+use machine::Refusal;
+use machine::Response;
 ghost use mathlib.Core.Path.{_≡_};
 ghost use mathlib.Core.Bool.{_||_};
 ghost use Rattle.machine.specs.declared.Check.the-variants as check;

@@ -1,7 +1,8 @@
 -- laws of the machine's definitions, each for every width
 pub mod Loads
-pub mod Tops
-pub mod Statuses
+pub mod Machine
+pub mod Cells
 pub mod Sums
-pub mod Checks
+pub mod Words
+pub mod Refusals
 pub mod Masks

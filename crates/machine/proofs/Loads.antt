@@ -1,10 +1,10 @@
 -- Loading one register of the panel changes that register and no other, and leaves nothing of the panel open.
 use Prim.Native.Nat.{ℕ, _<_}
-use mathlib.Core.Path.{_≡_, _∙_, ap}
+use mathlib.Core.Path.{_≡_, refl, _∙_, ap}
 use lib.ListN.{getD}
 use lib.Seq.{getD-set-same, getD-set-other}
 use Rattle.machine.specs.declared.Panel.{Panel}
-use Rattle.machine.specs.Panel.{registers, load}
+use Rattle.machine.specs.Panel.{registers, panelOf, load}
 
 -- what register k holds
 abbrev pub held : Panel → ℕ → ℕ
@@ -17,17 +17,8 @@ pub load-no-other : (k v : ℕ) (p q : Panel) (j : ℕ) → (j ≡ k → ⊥) �
 load-no-other k v p q j other e = ap (λ xs. getD xs j 0) e ∙ getD-set-other (registers p) k j v 0 other
 
 -- the registers are all of the panel
+pub panel-of : (p : Panel) → panelOf (registers p) ≡ p
+panel-of p = refl
+
 pub same-panel : (p q : Panel) → registers p ≡ registers q → p ≡ q
-same-panel p q e =
-    let at : (k : ℕ) → held p k ≡ held q k = λ k. ap (λ xs. getD xs k 0) e in
-    λ i. record {
-      comp = at 0 i;
-      sdr = at 1 i;
-      sc1 = at 2 i;
-      sc2 = at 3 i;
-      mor = at 4 i;
-      key = at 5 i;
-      care = at 6 i;
-      target = at 7 i;
-      address = record { 0 = at 8 i };
-    }
+same-panel p q e = ap panelOf e

@@ -6,3 +6,4 @@ pub mod Cells
 pub mod Pulse
 pub mod Resolution
 pub mod Refusals
+pub mod Words

@@ -3,10 +3,11 @@ use Prim.Native.Nat.{ℕ, _+_, _^_}
 use mathlib.Core.Bool.{Bool, true, false, not, _&&_, _||_}
 use lib.Dec.{ltb, leb, eqb}
 use lib.ListN.{length}
-use Rattle.laws.specs.Bits.{digit}
+use Rattle.laws.specs.Bits.{bit, digit}
 use Rattle.laws.specs.Lists.{all}
 use Rattle.machine.specs.declared.Panel.{Panel}
 use Rattle.machine.specs.declared.Lines.{Lines}
+use Rattle.machine.specs.declared.ResponseBit.{ResponseBit}
 use Rattle.machine.specs.declared.Found.{Found}
 use Rattle.machine.specs.declared.Found.the-variants.{At, Nothing}
 use Rattle.machine.specs.declared.Refusal.{Refusal}
@@ -15,7 +16,7 @@ use Rattle.machine.specs.declared.Check.{Check}
 use Rattle.machine.specs.declared.Check.the-variants as check
 use Rattle.machine.specs.declared.Answer.{Answer}
 use Rattle.machine.specs.declared.Answer.the-variants as answer
-use Rattle.machine.specs.Machine.{Machine, syllables}
+use Rattle.machine.specs.Machine.{Machine, responseBits, syllables}
 use Rattle.machine.specs.Search.{oneCode}
 use Rattle.machine.specs.Pulse.{countOf, readOf, pulsed}
 use Rattle.machine.specs.Resolution.{lowest}
@@ -71,6 +72,11 @@ abbrev pub refuseWord : Found → Check
 refuseWord (At k) = check.Refused (WordTooWide k)
 refuseWord Nothing = check.Passed
 
+-- a check passes
+abbrev pub passes : Check → Bool
+passes check.Passed = true
+passes (check.Refused r) = false
+
 -- "resolution for 1 to 3", and every other call first
 unfoldable pub machineCheck : Machine → Check
 machineCheck m =
@@ -89,6 +95,23 @@ pulseCheck m p l =
     else refuse PanelTooWide (badPanel (m .width) p)
     else refuse TwoCodes (badCodes (m .width) p l)
     else commandCheck (length (m .words)) p l
+
+-- ---- 8, of response bits: what jobs and rounds share
+
+-- "a response bit above 7"
+abbrev pub bitCheck : ResponseBit → Check
+bitCheck x = refuse Unfit (leb responseBits (x .0))
+
+-- "X equal to Y or F"
+abbrev pub apartCheck : ResponseBit → ResponseBit → Check
+apartCheck x y = refuse Unfit (eqb (x .0) (y .0))
+
+-- "a working bit in care"
+abbrev pub inCare : ℕ → ResponseBit → Bool
+inCare care x = eqb (bit care (x .0)) 1
+
+abbrev pub careCheck : ℕ → ResponseBit → Check
+careCheck care x = refuse Unfit (inCare care x)
 
 -- ---- what a pulse answers, and what stands in the machine afterwards
 

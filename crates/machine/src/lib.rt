@@ -1,12 +1,14 @@
 // The machine's types, its panel's loads, and the checks that calls share.
 // Document 01: 'The machine', 'One pulse', 'Numbers given when a call is turned down'.
 ghost use mathlib.Core.Path.{_≡_};
-ghost use Prim.Native.Nat.{_≤_};
+ghost use mathlib.Core.List.{[]};
+ghost use Prim.Native.Nat.{_-_, _^_, _≤_, _<_};
 ghost use Rattle.laws.specs.Bits.{digit};
-ghost use Rattle.machine.specs.Panel.{registers, load};
-ghost use Rattle.machine.specs.Machine.{machine};
+ghost use Rattle.machine.specs.Panel.{registers, panelOf, load};
+ghost use Rattle.machine.specs.Machine.{machine, selected};
 ghost use Rattle.machine.specs.Resolution.{lowest};
-ghost use Rattle.machine.specs.Refusals.{badSize, badWidth, tooWide, badPanel, badLines, badAddress, refuseWord, machineCheck, commandCheck, numberOf};
+ghost use Rattle.machine.specs.Words.{union};
+ghost use Rattle.machine.specs.Refusals.{badSize, badWidth, tooWide, badPanel, badLines, badAddress, inCare, _else_, refuse, refuseWord, machineCheck, commandCheck, bitCheck, apartCheck, careCheck, numberOf};
 
 // A word's response bits, and how many they are: named once.
 pub type Response = u8;
@@ -17,6 +19,9 @@ pub const RESPONSE_BITS: u32 = 8;
 pub struct WordSlice(pub usize);
 
 pub struct BitSlice(pub u8);
+
+// The number of a response bit; it is no bit-slice's and no word-slice's.
+pub struct ResponseBit(pub u8);
 
 // "The panel holds five N-bit registers .., three 8-bit ones .. and an address."
 pub struct Panel {
@@ -31,8 +36,25 @@ pub struct Panel {
     pub address: WordSlice,
 }
 
-// "Loading one register of the panel changes that register and no other."
 impl Panel {
+    // All registers 0. Every other panel is one of these with registers set, so that one more register changes no other place.
+    pub fn blank() -> Panel
+        ensures { λ r. ⌜ r ≡ panelOf [] ⌝ }
+    {
+        Panel {
+            comp: 0,
+            sdr: 0,
+            sc1: 0,
+            sc2: 0,
+            mor: 0,
+            key: 0,
+            care: 0,
+            target: 0,
+            address: WordSlice(0),
+        }
+    }
+
+    // "Loading one register of the panel changes that register and no other."
     pub fn load_comp(mut self, value: u64) -> Panel
         ensures { λ r. ⌜ registers r ≡ load 0 value self ⌝ }
     {
@@ -146,7 +168,7 @@ pub enum Refusal {
 
 // Document 01's number of each.
 pub fn number_of(why: Refusal) -> u64
-    ensures { λ r. ⌜ (r ≡ numberOf why) × (r ≤ 11) ⌝ }
+    ensures { λ r. ⌜ (r ≡ numberOf why) × (r < 256) ⌝ }
 {
     match why {
         Refusal::Size => 1,
@@ -175,6 +197,45 @@ pub enum Answer {
     Refused(Refusal),
 }
 
+// ---- words and responses
+
+// The k lowest bits.
+pub fn low_bits(k: u32) -> u64
+    requires { ⌜ (0 < k) × (k ≤ 64) ⌝ }
+    ensures { λ r. ⌜ r ≡ 2 ^ k - 1 ⌝ }
+{
+    u64::MAX >> (64 - k)
+}
+
+// The definition asks bit by bit; the code asks all bits at once.
+pub fn is_selected(key: Response, care: Response, response: Response) -> bool
+    ensures { λ s. ⌜ s ≡ selected key care response ⌝ }
+{
+    (response & care) == (key & care)
+}
+
+// ---- a chain of checks: "Checked in number order"
+
+pub fn refuse(why: Refusal, when: bool) -> Check
+    ensures { λ r. ⌜ r ≡ refuse why when ⌝ }
+{
+    if when {
+        Check::Refused(why)
+    } else {
+        Check::Passed
+    }
+}
+
+// The first check, and where it passes the second.
+pub fn in_order(first: Check, second: Check) -> Check
+    ensures { λ r. ⌜ r ≡ (first else second) ⌝ }
+{
+    match first {
+        Check::Passed => second,
+        Check::Refused(why) => Check::Refused(why),
+    }
+}
+
 // ---- the checks that calls share, in the table's order
 
 pub fn bad_size(words: usize, responses: usize) -> bool
@@ -201,7 +262,7 @@ pub fn too_wide(width: u32, x: u64) -> bool
     }
 }
 
-pub fn first_too_wide(width: u32, words: &[u64]) -> Found
+fn first_too_wide(width: u32, words: &[u64]) -> Found
     ensures { λ r. ⌜ r ≡ lowest (tooWide width) 0 (now (words .entry)) ⌝ }
 {
     let mut i: usize = 0;
@@ -214,12 +275,40 @@ pub fn first_too_wide(width: u32, words: &[u64]) -> Found
     Found::Nothing
 }
 
-pub fn refuse_word(found: Found) -> Check
+fn refuse_word(found: Found) -> Check
     ensures { λ r. ⌜ r ≡ refuseWord found ⌝ }
 {
     match found {
         Found::At(k) => Check::Refused(Refusal::WordTooWide(k)),
         Found::Nothing => Check::Passed,
+    }
+}
+
+// The bits of all words together.
+fn union_of(words: &[u64]) -> u64
+    ensures { λ r. ⌜ r ≡ union 0 (now (words .entry)) ⌝ }
+{
+    let mut all: u64 = 0;
+    let mut i: usize = 0;
+    while i < words.len() {
+        all |= words[i];
+        i += 1;
+    }
+    all
+}
+
+// 3: the OR of all words first, and the scan for the lowest only if that is too wide.
+fn check_words(width: u32, words: &[u64]) -> Check
+    ensures { λ r. ⌜ r ≡ refuseWord (lowest (tooWide width) 0 (now (words .entry))) ⌝ }
+{
+    if width < 64 {
+        if too_wide(width, union_of(words)) {
+            refuse_word(first_too_wide(width, words))
+        } else {
+            Check::Passed
+        }
+    } else {
+        Check::Passed
     }
 }
 
@@ -233,7 +322,7 @@ pub fn check_machine(words: &[u64], responses: &[Response], width: u32) -> Check
     if bad_width(width) {
         return Check::Refused(Refusal::Width);
     }
-    refuse_word(first_too_wide(width, words))
+    check_words(width, words)
 }
 
 pub fn bad_panel(width: u32, panel: Panel) -> bool
@@ -282,4 +371,39 @@ pub fn check_command(words: usize, panel: Panel, lines: Lines) -> Check
         return Check::Refused(Refusal::NoSuchWord);
     }
     Check::Passed
+}
+
+// ---- 8, of response bits: what jobs and rounds share
+
+// "a response bit above 7"
+pub fn check_bit(x: ResponseBit) -> Check
+    ensures { λ r. ⌜ r ≡ bitCheck x ⌝ }
+{
+    refuse(Refusal::Unfit, RESPONSE_BITS <= x.0 as u32)
+}
+
+// "X equal to Y or F"
+pub fn check_apart(x: ResponseBit, y: ResponseBit) -> Check
+    ensures { λ r. ⌜ r ≡ apartCheck x y ⌝ }
+{
+    refuse(Refusal::Unfit, x.0 == y.0)
+}
+
+// No response has a bit above its last, so care has none there either.
+fn in_care(care: Response, x: ResponseBit) -> bool
+    ensures { λ r. ⌜ r ≡ inCare care x ⌝ }
+{
+    let i = x.0;
+    if (i as u32) < RESPONSE_BITS {
+        (care >> i) % 2 == 1
+    } else {
+        false
+    }
+}
+
+// "a working bit in care"
+pub fn check_care(care: Response, x: ResponseBit) -> Check
+    ensures { λ r. ⌜ r ≡ careCheck care x ⌝ }
+{
+    refuse(Refusal::Unfit, in_care(care, x))
 }

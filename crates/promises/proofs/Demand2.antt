@@ -28,8 +28,8 @@ use Rattle.machine.specs.declared.WordSlice.{WordSlice}
 use Rattle.machine.specs.declared.Found.the-variants.{At, Nothing}
 use Rattle.machine.specs.Resolution.{resolved}
 use Rattle.machine.specs.Refusals.{pulseCheck, after}
-use Rattle.machine.proofs.Checks as checks
-use Rattle.machine.proofs.Statuses.{cells-match}
+use Rattle.machine.proofs.Refusals as checks
+use Rattle.machine.proofs.Cells.{cells-match}
 use Rattle.jobs.specs.Runs.{State}
 use Rattle.image_layout.specs.declared.Scanned.the-variants.{Sound, Broken}
 use Rattle.image_layout.specs.Format.{imageOf}

@@ -1,4 +1,4 @@
-use Rattle.machine.proofs.Checks.{width-pos, width-le}
+use Rattle.machine.proofs.Refusals.{width-pos, width-le}
 use borrow.Author.Needs.{needs}
 use Rattle.array.proofs.mask_of.Statement.{statement}
 use Rattle.array.proofs.mask_of.Tie as tie

@@ -1,4 +1,4 @@
-use Rattle.machine.proofs.Checks as checks
+use Rattle.machine.proofs.Refusals as checks
 use Rattle.machine.specs.Refusals.{badCodes}
 use Rattle.cells.proofs.bad_codes.Statement.{statement}
 use Rattle.cells.proofs.bad_codes.Tie as tie

@@ -1,5 +1,5 @@
 use mathlib.Core.Path.{sym, _∙_}
-use Rattle.machine.proofs.Checks as checks
+use Rattle.machine.proofs.Refusals as checks
 use Rattle.cells.proofs.Turns as turns
 use borrow.Author.Needs.{needs}
 use Rattle.cells.proofs.pulse.Statement.{statement}

@@ -1,4 +1,4 @@
-use Rattle.machine.proofs.Checks as checks
+use Rattle.machine.proofs.Refusals as checks
 use Rattle.cells.proofs.Turns as turns
 use borrow.Author.Needs.{needs}
 use Rattle.cells.proofs.turn.Statement.{statement}

@@ -1,5 +1,5 @@
 use mathlib.Core.Path.{sym, _∙_}
-use Rattle.machine.proofs.Checks as checks
+use Rattle.machine.proofs.Refusals as checks
 use Rattle.machine.specs.declared.Refusal.the-variants.{Unfit}
 use Rattle.jobs.specs.Calls.{startCheck}
 use borrow.Author.Needs.{needs}

@@ -1,6 +1,6 @@
 use mathlib.Core.Path.{sym, _∙_}
 use Rattle.machine.specs.declared.Refusal.the-variants.{WrongLines, NoSuchWord}
-use Rattle.machine.proofs.Checks.{refused, onward, last, none}
+use Rattle.machine.proofs.Refusals.{refused, onward, last, none}
 use borrow.Author.Needs.{needs}
 use Rattle.machine.proofs.check_command.Statement.{statement}
 use Rattle.machine.proofs.check_command.Tie as tie

@@ -4,7 +4,7 @@ use lib.ListN.{length, drop}
 use borrow.Author.Needs.{needs}
 use Rattle.machine.specs.Resolution.{lowest}
 use Rattle.machine.specs.Refusals.{tooWide}
-use Rattle.machine.proofs.Checks.{lowest-here, lowest-later, lowest-end}
+use Rattle.machine.proofs.Refusals.{lowest-here, lowest-later, lowest-end}
 use Rattle.machine.proofs.first_too_wide.Statement.{statement}
 use Rattle.machine.proofs.first_too_wide.Tie as tie
 

@@ -1,5 +1,5 @@
 use borrow.Author.Needs.{needs}
-use Rattle.machine.proofs.Checks.{above, never}
+use Rattle.machine.proofs.Refusals.{above, never}
 use Rattle.machine.proofs.too_wide.Statement.{statement}
 use Rattle.machine.proofs.too_wide.Tie as tie
 

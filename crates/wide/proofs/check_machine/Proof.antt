@@ -2,7 +2,7 @@
 use mathlib.Core.Path.{sym, _∙_}
 use Rattle.machine.specs.declared.Refusal.the-variants.{Size, Width}
 use Rattle.machine.specs.Refusals.{machineCheck}
-use Rattle.machine.proofs.Checks.{refused, onward}
+use Rattle.machine.proofs.Refusals.{refused, onward}
 use borrow.Author.Needs.{needs}
 use Rattle.wide.proofs.check_machine.Statement.{statement}
 use Rattle.wide.proofs.check_machine.Tie as tie

@@ -1,7 +1,7 @@
 -- 4 to 7, in order.
 use mathlib.Core.Path.{sym, _∙_}
 use Rattle.machine.specs.declared.Refusal.the-variants.{PanelTooWide, TwoCodes}
-use Rattle.machine.proofs.Checks.{refused, onward}
+use Rattle.machine.proofs.Refusals.{refused, onward}
 use Rattle.wide.proofs.Checks.{fit}
 use borrow.Author.Needs.{needs}
 use Rattle.wide.proofs.check_rest.Statement.{statement}

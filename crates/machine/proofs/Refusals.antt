@@ -3,7 +3,7 @@ use Prim.Native.Nat.{ℕ, zero, suc, _+_, _/_, _^_, _≤_, _<_}
 use mathlib.Core.Path.{_≡_, refl, sym, _∙_}
 use mathlib.Core.Bool.{Bool, true, false, not, _||_}
 use mathlib.Core.Logic.{_⊎_, inl, inr, ⊎-elim}
-use mathlib.Core.List.{List}
+use mathlib.Core.List.{List, [], _∷_}
 use native.Mathlib.Nat.{div-eq-of-lt, le-div-iff-mul-le}
 use native.Mathlib.Numerals.{add-one}
 use native.Mathlib.Omega.{arith}
@@ -68,6 +68,11 @@ lowest-later test xs i h e = rw (add-one i, drop-cons xs i 0) (rw e refl)
 pub lowest-end : (test : ℕ → Bool) (xs : List ℕ) (i : ℕ) → length xs ≤ i → lowest test i (drop i xs) ≡ Nothing
 unfolding lowest
 lowest-end test xs i h = rw (drop-of-length-le xs h)
+
+pub none-lowest : (n k : ℕ) (ws : List ℕ) → ((j : ℕ) → j < length ws → getD ws j 0 < 2 ^ n) → lowest (tooWide n) k ws ≡ Nothing
+unfolding lowest
+none-lowest n k [] h = refl
+none-lowest n k (w ∷ ws) h = rw (lt-leb (2 ^ n) w (h 0 (omega arith))) (none-lowest n (suc k) ws (λ j g. h (suc j) (omega arith)))
 
 -- ---- what a check that is passed shows
 
