@@ -1,6 +1,8 @@
 // The array of three-state cells: both proved machines, called with numbers and lent buffers, held against loops written by hand,
 // and the time of whole calls. `array agree` does only the first.
-use std::hint::black_box;
+mod opaque;
+
+use opaque::black_box;
 use std::time::Instant;
 
 extern "C" {

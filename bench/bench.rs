@@ -4,13 +4,14 @@
 // variants), bench count NAME WIDTH CALLS (that many calls and nothing else, for an instruction counter).
 mod data;
 mod hand;
+mod opaque;
 mod proved;
 #[cfg(sqlite)]
 mod sqlite;
 
 use data::{any_panel, any_words, panel, words, Panel, Random, Select, N};
+use opaque::black_box;
 use std::env;
-use std::hint::black_box;
 use std::time::Instant;
 
 type Call = fn(&Panel, &mut [u64], &mut [u8]) -> u64;
@@ -185,18 +186,19 @@ fn columns<const TOP: usize>(random: &mut Random, width: u32) -> [Column; 8] {
     ]
 }
 
-fn line(name: &str, values: [String; 8]) {
-    println!("{name:54}{}", values.map(|v| format!("{v:>8}")).concat());
+fn line(name: &str, columns: &[Column; 8], value: impl Fn(&Column) -> String) {
+    let values: String = columns.iter().map(|c| format!("{:>8}", value(c))).collect();
+    println!("{name:54}{values}");
 }
 
 fn print(columns: &[Column; 8]) {
-    line(&format!("N = {}", columns[0].panel.width), columns.each_ref().map(|c| c.heading.clone()));
+    line(&format!("N = {}", columns[0].panel.width), columns, |c| c.heading.clone());
     for name in names() {
-        line(name, columns.each_ref().map(|c| format!("{:.0}", time(c, name))));
+        line(name, columns, |c| format!("{:.0}", time(c, name)));
     }
     println!("ratios:");
     for (a, b) in RATIOS {
-        line(&format!("{a} / {b}"), columns.each_ref().map(|c| format!("{:.2}", time(c, a) / time(c, b))));
+        line(&format!("{a} / {b}"), columns, |c| format!("{:.2}", time(c, a) / time(c, b)));
     }
 }
 
@@ -212,7 +214,7 @@ fn time(c: &Column, name: &str) -> f64 {
 fn tables(random: &mut Random) {
     let mut tables = [columns::<64>(random, 64), columns::<60>(random, 60)];
     for round in 0..ROUNDS {
-        for c in tables.as_flattened_mut() {
+        for c in tables.iter_mut().flatten() {
             measure(c, round);
         }
     }

@@ -1,7 +1,8 @@
 // The same 1,024 rows in SQLite, in memory: a prepared SELECT count(*) and a marking UPDATE, for 4 syllables.
 use crate::data::{panel, words, Random, Select};
 use crate::{hand, quartile, ROUNDS};
-use std::ffi::{c_char, c_int, c_void, CString};
+use std::ffi::CString;
+use std::os::raw::{c_char, c_int, c_void};
 use std::ptr::null_mut;
 use std::time::Instant;
 

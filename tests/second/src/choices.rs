@@ -2,6 +2,11 @@
 //! registers, masks, selector latches and forms of source document 001, each
 //! with the console's word for it.
 
+/// The first word of each of the array's lines.
+pub const COMMANDS: [&[u8]; 8] = [
+    b"cells3", b"cell3", b"select3", b"load3", b"search3", b"read3", b"write3", b"list3",
+];
+
 /// "The specified data register (R1, R2)."
 #[derive(Clone, Copy, Debug, PartialEq, Eq)]
 pub enum Data {

@@ -14,8 +14,9 @@ use crate::resolve;
 use crate::round::{self, Verdict};
 use crate::wide::WIDE;
 
-/// "One machine, with its panel and the held job, if any, and beside it one
-/// array of three-state cells"; no command of the one changes the other.
+/// The board's machine, with its panel and the held job, if any, and beside it
+/// the array board's array of three-state cells; no command of the one changes
+/// the other.
 pub struct Console {
     pub machine: Machine,
     pub panel: Panel,
@@ -32,7 +33,7 @@ const MOST_ENTRIES: u64 = 2048;
 const MOST_ROOM: u64 = 20_000;
 
 impl Console {
-    /// "It starts as after `machine 8 3` and `cells3 8 3`."
+    /// The one starts as after `machine 8 3`, the other as after `cells3 8 3`.
     pub fn new() -> Console {
         Console {
             machine: Machine::blank(8, 3),

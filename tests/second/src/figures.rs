@@ -1,28 +1,27 @@
 //! The figures of the document: scripts whose output is typed beside them, and
 //! an image given as bytes.
 
-use crate::player::play;
+use crate::player::{play, Boards};
+use crate::told::tell;
 use crate::Score;
 use std::fs;
 use std::path::{Path, PathBuf};
 
-/// Every script of a directory on each program.
-pub fn all(score: &mut Score, at: &str, programs: &[&str]) {
+/// Every script of a directory.
+pub fn all(score: &mut Score, at: &str, boards: Boards) {
     let mut found: Vec<PathBuf> = match fs::read_dir(at) {
         Ok(entries) => entries.flatten().map(|entry| entry.path()).collect(),
         Err(error) => return score.count(at, Err(error.to_string())),
     };
     found.sort();
     for path in found.iter().filter(|path| is_kind(path, "script")) {
-        for program in programs {
-            let name = format!("figure {} on {program}:", path.display());
-            score.count(&name, figure(path, program));
-        }
+        let name = format!("figure {} on {}:", path.display(), boards.machine);
+        score.count(&name, figure(path, boards));
     }
 }
 
 fn is_kind(path: &Path, kind: &str) -> bool {
-    path.extension().is_some_and(|ending| ending == kind)
+    path.extension().map_or(false, |ending| ending == kind)
 }
 
 fn bytes_of(path: &Path) -> Result<Vec<u8>, String> {
@@ -30,10 +29,10 @@ fn bytes_of(path: &Path) -> Result<Vec<u8>, String> {
 }
 
 /// A figure's script, and its image if it has one: read, then listed.
-fn figure(path: &Path, program: &str) -> Result<(), String> {
+fn figure(path: &Path, boards: Boards) -> Result<(), String> {
     let script = bytes_of(path)?;
     expect(
-        program,
+        boards,
         &script,
         &bytes_of(&path.with_extension("expected"))?,
     )?;
@@ -47,15 +46,15 @@ fn figure(path: &Path, program: &str) -> Result<(), String> {
         .collect();
     let script = format!("resume {digits}\nlist\n");
     expect(
-        program,
+        boards,
         script.as_bytes(),
         &bytes_of(&path.with_extension("listed"))?,
     )
 }
 
-/// The program prints these bytes and no others.
-fn expect(program: &str, script: &[u8], expected: &[u8]) -> Result<(), String> {
-    let (output, end) = play(program, script)?;
+/// The programs print these bytes and no others.
+fn expect(boards: Boards, script: &[u8], expected: &[u8]) -> Result<(), String> {
+    let (output, end) = play(boards, &tell(script))?;
     if output != expected {
         let lines = |bytes: &[u8]| -> Vec<String> {
             String::from_utf8_lossy(bytes)

@@ -18,9 +18,12 @@ fn wanted() -> Option<Vec<u8>> {
 }
 
 fn main() -> ExitCode {
-    let Some(script) = wanted() else {
-        eprintln!("usage: generate SEED COUNT, generate image SEED");
-        return ExitCode::from(2);
+    let script = match wanted() {
+        Some(script) => script,
+        None => {
+            eprintln!("usage: generate SEED COUNT, generate image SEED");
+            return ExitCode::from(2);
+        }
     };
     match stdout().lock().write_all(&script) {
         Ok(()) => ExitCode::SUCCESS,

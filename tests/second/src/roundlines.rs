@@ -44,8 +44,9 @@ impl Writer {
                 self.say(&image);
                 self.say(format!("show {x}"));
             }
-            let Some(word) = shown.strip_prefix("word ") else {
-                return;
+            let word = match shown.strip_prefix("word ") {
+                Some(word) => word,
+                None => return,
             };
             self.answer_kept(&image, x, f, word);
             image = self.say("store").replacen("image", "resume", 1);

@@ -1,14 +1,17 @@
-//! The program `runs`: plays scripts on the second program and on the board
-//! and compares every answer. A board called `none` leaves the second program
-//! to its own checks.
+//! The program `runs`: plays scripts on the second program and on the two that
+//! are tested, and compares every answer. BOARD is given the machine's lines,
+//! ARRAY the array's. A BOARD called `none` leaves the second program to its own
+//! checks.
 //!
-//! - `runs figures DIR PROGRAM..`: each script of DIR prints what stands beside
-//!   it, on each program.
-//! - `runs scripts BOARD FIRST COUNT LINES`: random scripts of COUNT seeds.
-//! - `runs images BOARD FIRST COUNT`: every damaged form of COUNT images.
+//! - `runs figures DIR BOARD ARRAY`: each script of DIR prints what stands
+//!   beside it.
+//! - `runs scripts BOARD ARRAY FIRST COUNT LINES`: random scripts of COUNT seeds.
+//! - `runs strangers BOARD ARRAY FIRST COUNT LINES`: the same, each line on the
+//!   program that it isn't for, where it is a bad one.
+//! - `runs images BOARD ARRAY FIRST COUNT`: every damaged form of COUNT images.
 //! - `runs tally FIRST COUNT LINES`: prints what those random scripts bring out.
 //! - `runs needs FIRST COUNT LINES`: checks that nothing they should is missing.
-//! - `runs hunt BOARD FIRST COUNT LINES`: the first difference, or none.
+//! - `runs hunt BOARD ARRAY FIRST COUNT LINES`: the first difference, or none.
 //!
 //! The last line is 'N passed, M failed', a script counting as one; the status
 //! is 0 only if M is 0.
@@ -19,10 +22,13 @@ mod player;
 mod promises;
 mod told;
 
+use player::Boards;
 use scripts::tally::{needed, Tally};
 use scripts::{image_script, random_script};
+use std::ops::Range;
 use std::process::ExitCode;
 use std::time::Instant;
+use told::Told;
 
 /// After so many scripts that failed, no more are shown.
 const MOST_SHOWN: usize = 20;
@@ -53,28 +59,34 @@ impl Score {
     }
 }
 
-/// One script on both programs; how many commands it had is counted first.
-fn compare(score: &mut Score, board: &str, script: &[u8], stepped: bool) -> Result<(), String> {
+/// One script on the programs that are tested; how many commands it had is
+/// counted first.
+fn compare(score: &mut Score, boards: Boards, script: &[u8], stepped: bool) -> Result<(), String> {
     let told = told::tell(script);
     score.commands += told::commands(&told);
-    if board != "none" {
-        let (output, end) = if stepped {
-            player::play_in_step(board, &told)?
-        } else {
-            player::play(board, script)?
-        };
-        match (told::hold(&told, &output), end) {
-            (Err(wrong), Err(late)) => return Err(format!("{wrong}\n  {late}")),
-            (held, end) => held.and(end)?,
-        }
+    if boards.machine != "none" {
+        held(boards, &told, stepped)?;
     }
     promises::hold(&told)
 }
 
-fn scripts(score: &mut Score, board: &str, seeds: std::ops::Range<u64>, lines: usize, hunt: bool) {
+/// What the programs print of these lines is what is told of them.
+fn held(boards: Boards, told: &[Told], stepped: bool) -> Result<(), String> {
+    let (output, end) = if stepped {
+        player::play_in_step(boards, told)?
+    } else {
+        player::play(boards, told)?
+    };
+    match (told::hold(told, &output), end) {
+        (Err(wrong), Err(late)) => Err(format!("{wrong}\n  {late}")),
+        (held, end) => held.and(end),
+    }
+}
+
+fn scripts(score: &mut Score, boards: Boards, seeds: Range<u64>, lines: usize, hunt: bool) {
     for seed in seeds {
         let script = random_script(seed, lines);
-        let verdict = compare(score, board, &script, seed % STEPPED == 0);
+        let verdict = compare(score, boards, &script, seed % STEPPED == 0);
         score.count(&format!("seed {seed} of {lines} lines,"), verdict);
         if hunt && score.failed > 0 {
             return;
@@ -82,10 +94,20 @@ fn scripts(score: &mut Score, board: &str, seeds: std::ops::Range<u64>, lines: u
     }
 }
 
-fn images(score: &mut Score, board: &str, seeds: std::ops::Range<u64>, hunt: bool) {
+/// Random scripts, each line on the program that it isn't for.
+fn strangers(score: &mut Score, boards: Boards, seeds: Range<u64>, lines: usize) {
+    for seed in seeds {
+        let told = told::tell(&random_script(seed, lines));
+        let swapped: Vec<Told> = told.iter().map(Told::on_the_other_side).collect();
+        let name = format!("seed {seed} of {lines} lines, on the other program,");
+        score.count(&name, held(boards, &swapped, false));
+    }
+}
+
+fn images(score: &mut Score, boards: Boards, seeds: Range<u64>, hunt: bool) {
     for seed in seeds {
         let script = image_script(seed);
-        let verdict = compare(score, board, &script, false);
+        let verdict = compare(score, boards, &script, false);
         score.count(&format!("image {seed},"), verdict);
         if hunt && score.failed > 0 {
             return;
@@ -94,7 +116,7 @@ fn images(score: &mut Score, board: &str, seeds: std::ops::Range<u64>, hunt: boo
 }
 
 /// What random scripts bring out.
-fn tally(seeds: std::ops::Range<u64>, lines: usize) -> Tally {
+fn tally(seeds: Range<u64>, lines: usize) -> Tally {
     let mut tally = Tally::default();
     for seed in seeds {
         tally.script(&random_script(seed, lines));
@@ -128,34 +150,30 @@ fn obey(score: &mut Score, words: &[&str]) -> Option<()> {
         let first = number(first)?;
         Some(first..first.checked_add(number(count)?)?)
     };
-    match words {
-        ["figures", at, programs @ ..] => figures::all(score, at, programs),
-        ["scripts", board, first, count, lines] => {
-            scripts(
-                score,
-                board,
-                seeds(first, count)?,
-                number(lines)? as usize,
-                false,
-            );
+    let length = |lines: &str| lines.parse::<usize>().ok();
+    match *words {
+        ["figures", at, machine, array] => figures::all(score, at, Boards { machine, array }),
+        ["scripts", machine, array, first, count, lines] => {
+            let boards = Boards { machine, array };
+            scripts(score, boards, seeds(first, count)?, length(lines)?, false);
         }
-        ["images", board, first, count] => images(score, board, seeds(first, count)?, false),
-        ["tally", first, count, lines] => {
-            print(&tally(seeds(first, count)?, number(lines)? as usize));
+        ["strangers", machine, array, first, count, lines] => {
+            let boards = Boards { machine, array };
+            strangers(score, boards, seeds(first, count)?, length(lines)?);
         }
+        ["images", machine, array, first, count] => {
+            let boards = Boards { machine, array };
+            images(score, boards, seeds(first, count)?, false);
+        }
+        ["tally", first, count, lines] => print(&tally(seeds(first, count)?, length(lines)?)),
         ["needs", first, count, lines] => {
-            needs(score, &tally(seeds(first, count)?, number(lines)? as usize));
+            needs(score, &tally(seeds(first, count)?, length(lines)?));
         }
-        ["hunt", board, first, count, lines] => {
-            scripts(
-                score,
-                board,
-                seeds(first, count)?,
-                number(lines)? as usize,
-                true,
-            );
+        ["hunt", machine, array, first, count, lines] => {
+            let boards = Boards { machine, array };
+            scripts(score, boards, seeds(first, count)?, length(lines)?, true);
             if score.failed == 0 {
-                images(score, board, seeds(first, count)?, true);
+                images(score, boards, seeds(first, count)?, true);
             }
         }
         _ => return None,
@@ -169,7 +187,7 @@ fn main() -> ExitCode {
     let began = Instant::now();
     let mut score = Score::default();
     if obey(&mut score, &words).is_none() {
-        eprintln!("usage: runs figures|scripts|images|tally|needs|hunt ..");
+        eprintln!("usage: runs figures|scripts|strangers|images|tally|needs|hunt ..");
         return ExitCode::from(2);
     }
     if score.commands > 0 {

@@ -73,9 +73,9 @@ impl Tally {
         if !line.too_long {
             facts.before(console, &words);
         }
-        let Some(answer) = console.answer(line) else {
-            self.count("line: silent");
-            return;
+        let answer = match console.answer(line) {
+            Some(answer) => answer,
+            None => return self.count("line: silent"),
         };
         self.commands += 1;
         if !line.too_long {
@@ -225,7 +225,7 @@ fn forms(line: &Line) -> Vec<&'static str> {
         ("an empty fit", words.len() == 3 && words[0] == b"fit"),
         (
             "a command in capitals",
-            bytes.first().is_some_and(u8::is_ascii_uppercase),
+            bytes.first().map_or(false, u8::is_ascii_uppercase),
         ),
     ];
     held.iter()

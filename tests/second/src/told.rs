@@ -1,14 +1,24 @@
 //! A script as the second program plays it: every command with its answer, and
 //! how another program's output is held against them.
 
+use processor::choices::COMMANDS;
 use processor::console::Console;
 use processor::line::{read_line, Line};
 
-/// A line of the script, its number from 1, and what it answers; nothing for a
-/// line that prints nothing.
+/// Whose a line is: the array's, if its first word is one of the array's, and
+/// the machine's whatever else it is.
+#[derive(Clone, Copy)]
+pub enum Side {
+    Machine,
+    Array,
+}
+
+/// A line of the script, its number from 1, whose it is, and what it answers;
+/// nothing for a line that prints nothing.
 pub struct Told {
     pub number: usize,
     pub line: Vec<u8>,
+    pub side: Side,
     pub answer: Option<String>,
 }
 
@@ -26,11 +36,43 @@ pub fn tell(script: &[u8]) -> Vec<Told> {
             Ok(Some(line)) => line,
             _ => return told,
         };
+        let bytes = &start[..start.len() - rest.len()];
         told.push(Told {
             number: told.len() + 1,
-            line: start[..start.len() - rest.len()].to_vec(),
+            line: bytes.to_vec(),
+            side: side_of(bytes),
             answer: console.answer(&line),
         });
+    }
+}
+
+/// By the first word of the line, however long the line is.
+fn side_of(line: &[u8]) -> Side {
+    let mut words = line.split(|byte| matches!(byte, b' ' | b'\n'));
+    match words.find(|word| !word.is_empty()) {
+        Some(first) if COMMANDS.contains(&first) => Side::Array,
+        _ => Side::Machine,
+    }
+}
+
+impl Told {
+    /// How many lines the answer has.
+    pub fn answer_lines(&self) -> usize {
+        let lines = |answer: &String| answer.matches('\n').count() + 1;
+        self.answer.as_ref().map_or(0, lines)
+    }
+
+    /// The line given to the program that it isn't for: a bad one there.
+    pub fn on_the_other_side(&self) -> Told {
+        Told {
+            number: self.number,
+            line: self.line.clone(),
+            side: match self.side {
+                Side::Machine => Side::Array,
+                Side::Array => Side::Machine,
+            },
+            answer: self.answer.as_ref().map(|_| "bad line".to_string()),
+        }
     }
 }
 
@@ -44,8 +86,9 @@ pub fn commands(told: &[Told]) -> usize {
 pub fn hold(told: &[Told], output: &[u8]) -> Result<(), String> {
     let mut rest = output;
     for line in told {
-        let Some(answer) = &line.answer else {
-            continue;
+        let answer = match &line.answer {
+            Some(answer) => answer,
+            None => continue,
         };
         let ours = format!("{answer}\n");
         match rest.strip_prefix(ours.as_bytes()) {

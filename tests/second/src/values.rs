@@ -172,7 +172,7 @@ pub fn codes(rng: &mut Rng, sdr: u64, width: u8) -> (u64, u64) {
     let all = syllables(sdr, width.min(64));
     let alone = rng.once_in(2).then(|| rng.below(all.len() as u64) as usize);
     for (index, syllable) in all.into_iter().enumerate() {
-        if alone.is_some_and(|chosen| chosen != index) {
+        if alone.map_or(false, |chosen| chosen != index) {
             continue;
         }
         let kept = match rng.below(4) {

@@ -9,11 +9,6 @@ use processor::choices::{DATA, HOWS, KINDS, LATCHES, MASKS, SELECTORS, SENSES, S
 use processor::machine::{bit, is_stray, one_at, ones};
 use std::collections::BTreeSet;
 
-/// The array's commands.
-pub const COMMANDS: [&[u8]; 8] = [
-    b"cells3", b"cell3", b"select3", b"load3", b"search3", b"read3", b"write3", b"list3",
-];
-
 /// The words that each place of an operation takes.
 fn places(operation: &[u8]) -> Vec<Vec<&'static str>> {
     fn names<T>(choices: &[(&'static str, T)]) -> Vec<&'static str> {
@@ -78,8 +73,9 @@ impl Facts {
         let is_wide = |plane: &[u64], at: usize| is_stray(plane[at], array.width);
         let too_wide = |at: &usize| is_wide(&array.ones, *at) || is_wide(&array.xs, *at);
         let stray: Vec<usize> = (0..array.ones.len()).filter(too_wide).collect();
-        let Some(lowest) = stray.first().copied() else {
-            return;
+        let lowest = match stray.first().copied() {
+            Some(lowest) => lowest,
+            None => return,
         };
         let planes = match (is_wide(&array.ones, lowest), is_wide(&array.xs, lowest)) {
             (true, true) => "both planes",
@@ -147,8 +143,9 @@ impl Facts {
 
     /// An operation that no number is against.
     fn sound_operation(&mut self, array: &Array, words: &[&[u8]]) {
-        let Ok(cells) = array.check() else {
-            return;
+        let cells = match array.check() {
+            Ok(cells) => cells,
+            Err(_) => return,
         };
         let line = words.join(&b' ');
         self.hold_back(String::from_utf8_lossy(&line).into_owned());
@@ -163,8 +160,9 @@ impl Facts {
 
     /// The pairs of the mismatch table, and what a signal meets in its latch.
     fn search_cells(&mut self, array: &Array, words: &[Cells], ask: Option<Search>) {
-        let Some(ask) = ask else {
-            return;
+        let ask = match ask {
+            Some(ask) => ask,
+            None => return,
         };
         let argument = array.argument(ask.data, ask.mask);
         let mut seen = BTreeSet::new();
@@ -196,8 +194,9 @@ impl Facts {
 
     /// The read table on each bit before, X on the bus, words ORed.
     fn read_cells(&mut self, array: &Array, words: &[Cells], ask: Option<Read>) {
-        let Some(ask) = ask else {
-            return;
+        let ask = match ask {
+            Some(ask) => ask,
+            None => return,
         };
         let selected = array.selected(ask.selector, ask.sense);
         let mask = match ask.mask {
@@ -240,8 +239,9 @@ impl Facts {
     /// Every column of the write tables on every content, and words that are
     /// not selected and would have changed.
     fn write_cells(&mut self, array: &Array, words: &[Cells], ask: Option<Write>) {
-        let Some(ask) = ask else {
-            return;
+        let ask = match ask {
+            Some(ask) => ask,
+            None => return,
         };
         let argument = array.argument(ask.data, ask.mask);
         let selected = array.selected(ask.selector, ask.sense);

@@ -1,7 +1,7 @@
 //! What stands before one command and what comes of it.
 
-use super::arrayfacts::COMMANDS;
 use super::reasons::{pulse_numbers, record_reasons, used_reasons};
+use processor::choices::COMMANDS;
 use processor::console::Console;
 use processor::image;
 use processor::jobs::{Job, Span, PRODUCT, SCALED};
@@ -72,8 +72,9 @@ impl Facts {
     }
 
     fn before_pulse(&mut self, console: &Console, way: &[u8], names: &[&[u8]]) {
-        let Some(lines) = lines_of(names) else {
-            return;
+        let lines = match lines_of(names) {
+            Some(lines) => lines,
+            None => return,
         };
         let way = String::from_utf8_lossy(way);
         let (machine, panel) = (&console.machine, &console.panel);
@@ -228,8 +229,9 @@ impl Facts {
     fn before_start(&mut self, console: &Console, fields: &[&[u8]]) {
         let mut scratch = Console::new();
         let line = [&[&b"job"[..]], fields, &[]].concat();
-        let Some(job) = record(&mut scratch, line) else {
-            return;
+        let job = match record(&mut scratch, line) {
+            Some(job) => job,
+            None => return,
         };
         let width = console.machine.width;
         self.reasons = used_reasons(&job, width);
@@ -273,8 +275,9 @@ impl Facts {
     }
 
     fn after_step(&mut self, answer: &str) {
-        let Some((kind, phase)) = self.kind_and_phase else {
-            return;
+        let (kind, phase) = match self.kind_and_phase {
+            Some(both) => both,
+            None => return,
         };
         let end = if answer.ends_with("ended") {
             "ended"
@@ -294,8 +297,9 @@ impl Facts {
 
     fn before_answer(&mut self, console: &Console, x: &[u8], f: &[u8], word: &[u8]) {
         let number = |word: &[u8]| std::str::from_utf8(word).ok()?.parse::<u64>().ok();
-        let (Some(x), Some(f), Some(word)) = (number(x), number(f), number(word)) else {
-            return;
+        let (x, f, word) = match (number(x), number(f), number(word)) {
+            (Some(x), Some(f), Some(word)) => (x, f, word),
+            _ => return,
         };
         if x > 7 {
             self.reasons.push("X above 7");
@@ -453,7 +457,7 @@ fn raised(mut lines: Lines) -> String {
     let names = processor::panel::LINE_NAMES;
     let up = names
         .iter()
-        .filter(|name| lines.named(name.as_bytes()).is_some_and(|line| *line));
+        .filter(|name| matches!(lines.named(name.as_bytes()), Some(true)));
     up.copied().collect::<Vec<_>>().join("+")
 }
 
