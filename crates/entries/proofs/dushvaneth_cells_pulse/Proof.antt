@@ -2,7 +2,7 @@ use mathlib.Core.List.{[], _∷_}
 use Rattle.machine.specs.Panel.{panelOf}
 use Rattle.entries.specs.Numbers.{linesOf}
 use Rattle.machine.specs.Machine.{machine}
-use Rattle.entries.proofs.Passed.{passed}
+use Rattle.entries.proofs.Numbers.{passed}
 use borrow.Author.Needs.{needs}
 use Rattle.entries.proofs.dushvaneth_cells_pulse.Statement.{statement}
 use Rattle.entries.proofs.dushvaneth_cells_pulse.Tie as tie
