@@ -9,7 +9,6 @@ use lib.Dec.{eqb}
 use lib.ListN.{getD, take, drop, take-append-drop}
 use Rattle.laws.specs.Bits.{pick}
 use Rattle.text.specs.Rows.{fits}
-use Rattle.console_setting.specs.Settings.{hits}
 use Rattle.array.specs.declared.Answer.{Answer}
 use Rattle.array.specs.declared.Answer.the-variants as answer
 use Rattle.array.specs.Refusals.{answerOf}
@@ -18,7 +17,7 @@ use Rattle.array_lines.specs.declared.Asked.the-variants.{Is, Bad}
 use Rattle.array_lines.specs.Choices.{placeIn, isIn, searchLine, readLine, writeLine}
 use Rattle.array_console.specs.declared.Rack.{Rack}
 use Rattle.array_console.specs.declared.Outcome.the-variants as outcome
-use Rattle.array_console.specs.Commands.{ended, answered, cellsHit, loaded}
+use Rattle.array_console.specs.Commands.{ended, answered, cellsHit, selectorsHit, loaded}
 use Rattle.array_console.specs.Obeying.{Bench, After, only, arrayOf, operated, doings, onOwn, own, behind, hasRoom, makes, named, obeyed}
 
 -- if this is a bad line, it leaves the rack and its buffers
@@ -68,7 +67,7 @@ module _ (b : Bench) (args : List (List ℕ)) where
   doings-still = (
     λ e. rw (wrong (cellsHit args (b .ones) (b .xs)) e) (refl, refl, refl, refl),
     (
-      λ e. rw (wrong (hits "ah" args (b .selectors)) e) (refl, refl, refl, refl),
+      λ e. rw (wrong (selectorsHit args (b .selectors)) e) (refl, refl, refl, refl),
       (
         λ e. (load-still (b .rack) args e, refl, refl, refl),
         (

@@ -1,5 +1,6 @@
 -- laws of the array's commands
-pub mod Planes
+pub mod Clearing
+pub mod Lines
 pub mod Loads
 pub mod Answers
 pub mod Arms

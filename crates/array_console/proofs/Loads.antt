@@ -20,13 +20,6 @@ use Rattle.array_console.specs.declared.Rack.{Rack}
 use Rattle.array_console.specs.declared.Turn.{Turn}
 use Rattle.array_console.specs.declared.Outcome.the-variants as outcome
 use Rattle.array_console.specs.Commands.{ended, withRegisters, loaded}
-use Rattle.array_console.specs.Obeying.{owned}
-
--- ---- a line's first word, empty where there is none, and the words behind it
-
-pub owned-is : (args : List (List ℕ)) → isIn "cells3 cell3 select3 load3 search3 read3 write3 list3" (getD args 0 []) ≡ owned args
-owned-is [] = not-in "cells3 cell3 select3 load3 search3 read3 write3 list3"
-owned-is (name ∷ args) = refl
 
 -- the rack with the register at a place loaded
 abbrev loadedAt : Rack → ℕ → ℕ → Rack

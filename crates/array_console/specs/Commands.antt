@@ -4,10 +4,9 @@ use Prim.Native.Nat.{ℕ}
 use mathlib.Core.Bool.{Bool, _&&_}
 use mathlib.Core.List.{List, [], _∷_}
 use lib.Dec.{ltb}
-use lib.ListN.{length, set}
+use lib.ListN.{length, replicate, set}
 use Rattle.laws.specs.Bits.{pick}
 use Rattle.text.specs.Rows.{fits, values, numberAt, byteAt}
-use Rattle.console_setting.specs.Settings.{hits}
 use Rattle.array.specs.declared.Registers.{Registers}
 use Rattle.array.specs.declared.Answer.{Answer}
 use Rattle.array.specs.declared.Answer.the-variants as answer
@@ -36,15 +35,23 @@ withRegisters k r = record { width = k .width; words = k .words; registers = r }
 abbrev pub freshRack : ℕ → ℕ → Rack
 freshRack width n = record { width = width; words = n; registers = record { r1 = 0; r2 = 0; m = 0 } }
 
+-- a buffer made anew where the line is right: "all .. 0"
+abbrev pub cleared : Bool → List ℕ → List ℕ
+cleared right old = pick right (replicate (length old) 0) old
+
 -- "cells3 N n"
 abbrev pub made : Rack → List (List ℕ) → Turn
 made k args =
     let row = values "bn" args in
     pick (fits "bn" args) (ended (freshRack (byteAt row 0) (numberAt row 1)) outcome.Fine) (ended k outcome.BadLine)
 
+-- "I below n": I is the first of a line's numbers
+abbrev pub below : List ℕ → List ℕ → Bool
+below row buffer = ltb (numberAt row 0) (length buffer)
+
 -- "the host writes word I's two planes, unchecked; I below n": whether a line has such an I
 abbrev pub cellsHit : List (List ℕ) → List ℕ → List ℕ → Bool
-cellsHit args ones xs = hits "axx" args ones && hits "axx" args xs
+cellsHit args ones xs = let row = values "axx" args in fits "axx" args && (below row ones && below row xs)
 
 abbrev pub cellsOutcome : List (List ℕ) → List ℕ → List ℕ → Outcome
 cellsOutcome args ones xs = pick (cellsHit args ones xs) outcome.Fine outcome.BadLine
@@ -55,12 +62,15 @@ cellsWritten place args ones xs plane =
     let row = values "axx" args in pick (cellsHit args ones xs) (set plane (numberAt row 0) (numberAt row place)) plane
 
 -- "select3 I HEX": "I below n, HEX at most FF"
+abbrev pub selectorsHit : List (List ℕ) → List ℕ → Bool
+selectorsHit args selectors = fits "ah" args && below (values "ah" args) selectors
+
 abbrev pub selectorsOutcome : List (List ℕ) → List ℕ → Outcome
-selectorsOutcome args selectors = pick (hits "ah" args selectors) outcome.Fine outcome.BadLine
+selectorsOutcome args selectors = pick (selectorsHit args selectors) outcome.Fine outcome.BadLine
 
 abbrev pub selectorsWritten : List (List ℕ) → List ℕ → List ℕ
 selectorsWritten args selectors =
-    let row = values "ah" args in pick (hits "ah" args selectors) (set selectors (numberAt row 0) (byteAt row 1)) selectors
+    let row = values "ah" args in pick (selectorsHit args selectors) (set selectors (numberAt row 0) (byteAt row 1)) selectors
 
 -- "load3 R HEX": "loads register R: `r1` `r2` `m`"
 unfoldable pub loaded : Rack → List (List ℕ) → Turn

@@ -1,15 +1,14 @@
 -- Which command a line for the array is, and all that stands after it: docs/BOARD.md, the table of the array's lines.
 use Prim.Native.Nat.{ℕ}
-use mathlib.Core.Bool.{Bool, false, _&&_}
+use mathlib.Core.Bool.{Bool, _&&_}
 use mathlib.Core.List.{List, [], _∷_, _++_}
 use lib.Dec.{leb, eqb}
 use lib.ListN.{length, getD, take, drop}
 use Rattle.laws.specs.Bits.{pick}
 use Rattle.text.specs.Rows.{fits}
-use Rattle.console_setting.specs.Settings.{cleared}
 use Rattle.array.specs.Operations.{Array, array}
 use Rattle.array_lines.specs.declared.Asked.{Asked}
-use Rattle.array_lines.specs.Choices.{placeIn, isIn, searchLine, readLine, writeLine}
+use Rattle.array_lines.specs.Choices.{placeIn, searchLine, readLine, writeLine}
 use Rattle.array_console.specs.declared.Rack.{Rack}
 use Rattle.array_console.specs.declared.Turn.{Turn}
 use Rattle.array_console.specs.declared.Outcome.the-variants as outcome
@@ -87,7 +86,7 @@ hasRoom b = leb (b .rack .words) (length (b .ones)) && leb (b .rack .words) (len
 abbrev pub makes : Bench → List (List ℕ) → After
 makes b args =
     let right = fits "bn" args in
-    buffers (commands.made (b .rack) args) (cleared right (b .ones)) (cleared right (b .xs)) (cleared right (b .selectors))
+    buffers (commands.made (b .rack) args) (commands.cleared right (b .ones)) (commands.cleared right (b .xs)) (commands.cleared right (b .selectors))
 
 unfoldable pub named : Bench → List ℕ → List (List ℕ) → After
 named b name args =
@@ -98,8 +97,3 @@ named b name args =
 unfoldable pub obeyed : Bench → List (List ℕ) → After
 obeyed b [] = only b (commands.ended (b .rack) outcome.BadLine)
 obeyed b (name ∷ args) = named b name args
-
--- whether it is a command for the array
-abbrev pub owned : List (List ℕ) → Bool
-owned [] = false
-owned (name ∷ args) = isIn "cells3 cell3 select3 load3 search3 read3 write3 list3" name

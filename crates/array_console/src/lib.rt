@@ -1,5 +1,5 @@
 // The console's commands for the array of three-state cells: what the host does to its array, and the three operations. docs/BOARD.md has
-// the language. The array has nothing in common with the machine.
+// the language.
 use array::Answer;
 use array::Refusal;
 use array::Registers;
@@ -9,9 +9,9 @@ use text::arguments;
 use text::numbers;
 use text::words;
 ghost use mathlib.Core.Path.{_≡_};
+ghost use lib.ListN.{length, replicate};
 ghost use Rattle.text.specs.Words.{wordsOf};
 ghost use Rattle.text.specs.Rows.{fits};
-ghost use Rattle.console_setting.specs.Settings.{cleared};
 ghost use Rattle.array.specs.Operations.{array};
 ghost use Rattle.array_console.specs.Commands as commands;
 ghost use Rattle.array_console.specs.Obeying as obeying;
@@ -69,20 +69,40 @@ fn with_registers(rack: Rack, registers: Registers) -> Rack
 
 // ---- what the host does to its array
 
+fn clear_plane(plane: &mut [u64])
+    ensures { λ _. ⌜ now (plane .exit) ≡ replicate (length (now (plane .entry))) 0 ⌝ }
+{
+    let mut i: usize = 0;
+    while i < plane.len() {
+        plane[i] = 0;
+        i += 1;
+    }
+}
+
+fn clear_selectors(selectors: &mut [u8])
+    ensures { λ _. ⌜ now (selectors .exit) ≡ replicate (length (now (selectors .entry))) 0 ⌝ }
+{
+    let mut i: usize = 0;
+    while i < selectors.len() {
+        selectors[i] = 0;
+        i += 1;
+    }
+}
+
 // cells3 N n
 fn make(rack: Rack, rest: &[u8], ones: &mut [u64], xs: &mut [u64], selectors: &mut [u8]) -> Turn
     ensures { λ r. ⌜ r ≡ commands.made rack (wordsOf (now (rest .entry))) ⌝ }
-    ensures { λ _. ⌜ now (ones .exit) ≡ cleared (fits "bn" (wordsOf (now (rest .entry)))) (now (ones .entry)) ⌝ }
-    ensures { λ _. ⌜ now (xs .exit) ≡ cleared (fits "bn" (wordsOf (now (rest .entry)))) (now (xs .entry)) ⌝ }
-    ensures { λ _. ⌜ now (selectors .exit) ≡ cleared (fits "bn" (wordsOf (now (rest .entry)))) (now (selectors .entry)) ⌝ }
+    ensures { λ _. ⌜ now (ones .exit) ≡ commands.cleared (fits "bn" (wordsOf (now (rest .entry)))) (now (ones .entry)) ⌝ }
+    ensures { λ _. ⌜ now (xs .exit) ≡ commands.cleared (fits "bn" (wordsOf (now (rest .entry)))) (now (xs .entry)) ⌝ }
+    ensures { λ _. ⌜ now (selectors .exit) ≡ commands.cleared (fits "bn" (wordsOf (now (rest .entry)))) (now (selectors .entry)) ⌝ }
 {
     let row = arguments::read(rest, b"bn");
     if !row.right {
         return ended(rack, Outcome::BadLine);
     }
-    console_setting::clear_words(ones);
-    console_setting::clear_words(xs);
-    console_setting::clear_responses(selectors);
+    clear_plane(ones);
+    clear_plane(xs);
+    clear_selectors(selectors);
     let width = numbers::byte(row.values[0]);
     ended(fresh(width as u32, row.values[1] as usize), Outcome::Fine)
 }
@@ -178,19 +198,6 @@ fn operate(rack: Rack, asked: Asked, ones: &mut [u64], xs: &mut [u64], selectors
 }
 
 // ---- which command a line is
-
-// Whether a line's first word is a command for the array.
-pub fn is_own(line: &[u8]) -> bool
-    ensures { λ r. ⌜ r ≡ obeying.owned (wordsOf (now (line .entry))) ⌝ }
-{
-    let name = choose(
-        line,
-        0,
-        b"cells3 cell3 select3 load3 search3 read3 write3 list3",
-        8,
-    );
-    name.right
-}
 
 // The commands that are lent just the array's own entries.
 fn on_own(

@@ -1,3 +1,2 @@
--- which lines are answered, and by which side
+-- what stands after a line
 pub mod Taking
-pub mod Sides

@@ -19,7 +19,7 @@ ghost use Rattle.text.specs.Words.{wordsOf};
 ghost use Rattle.text.specs.Rows.{fits, values};
 ghost use Rattle.console_setting.specs.Settings as settings;
 
-pub fn clear_words(words: &mut [u64])
+fn clear_words(words: &mut [u64])
     ensures { λ _. ⌜ now (words .exit) ≡ replicate (length (now (words .entry))) 0 ⌝ }
 {
     let mut i: usize = 0;
@@ -29,7 +29,7 @@ pub fn clear_words(words: &mut [u64])
     }
 }
 
-pub fn clear_responses(responses: &mut [Response])
+fn clear_responses(responses: &mut [Response])
     ensures { λ _. ⌜ now (responses .exit) ≡ replicate (length (now (responses .entry))) 0 ⌝ }
 {
     let mut i: usize = 0;

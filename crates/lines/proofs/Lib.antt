@@ -1,3 +1,4 @@
 -- laws that the functions' proofs cite
 pub mod Growing
 pub mod Onward
+pub mod FirstByte

@@ -7,11 +7,14 @@ ghost use mathlib.Core.List.{List, [], _∷_, _++_};
 ghost use lib.ListN.{length};
 ghost use Rattle.lines.specs.Input as input;
 ghost use Rattle.lines.specs.Pieces as pieces;
+ghost use Rattle.lines.specs.Silence as silence;
 use libc::STDIN_FILENO;
 
 const NEWLINE: u8 = 10;
 
 const SPACE: u8 = 32;
+
+const COMMENT: u8 = 35;
 
 // The bytes of the lent chunk that are read and not yet taken, and whether the input may have more.
 pub struct Reader {
@@ -189,4 +192,23 @@ pub fn next(reader: Reader, chunk: &mut [u8], kept: &mut [u8]) -> Got
         turns -= 1;
     }
     got
+}
+
+// ---- which lines are answered
+
+fn is_comment(kept: &[u8]) -> bool
+    ensures { λ r. ⌜ r ≡ silence.isComment (now (kept .entry)) ⌝ }
+{
+    if 0 < kept.len() {
+        kept[0] == COMMENT
+    } else {
+        false
+    }
+}
+
+// "A line with no word, and one whose first byte is `#`, prints nothing, however long."
+pub fn is_silent(line: Line, kept: &[u8]) -> bool
+    ensures { λ r. ⌜ r ≡ silence.isSilent line (now (kept .entry)) ⌝ }
+{
+    !line.has_word | is_comment(kept)
 }

@@ -1,37 +1,32 @@
 use mathlib.Core.Path.{refl, sym, _∙_}
-use borrow.Author.Tests.{not-true, not-false}
 use Rattle.console.specs.Obeying.{desk}
-use Rattle.board.proofs.Takes.{parts, wordless, comment, too-long, answered}
+use Rattle.board.proofs.Takes.{parts, silent, too-long, answered}
 use borrow.Author.Needs.{needs}
 use Rattle.board.proofs.take.Statement.{statement}
 use Rattle.board.proofs.take.Tie as tie
 
 returns : tie.Need-returns
-returns c = let a = c .before .before .before .before .before .before .before .args in parts _ _ (wordless (desk (a .board) (a .words .now) (a .responses .now) (a .bytes .now)) (a .found) (a .line .now) (not-true _ (c .if1 .taken))) _ _ _ _ refl refl refl refl
+returns c = let a = c .before .before .before .before .before .before .before .args in parts _ _ (silent (desk (a .board) (a .words .now) (a .responses .now) (a .bytes .now)) (a .found) (a .line .now) (sym (c .before .is-silent .ensures) ∙ c .if1 .taken)) _ _ _ _ refl refl refl refl
 
 returns-2 : tie.Need-returns-2
-returns-2 c = let a = c .before .before .before .before .before .before .before .before .before .args in parts _ _ (comment (desk (a .board) (a .words .now) (a .responses .now) (a .bytes .now)) (a .found) (a .line .now) (not-false _ (c .before .before .if1 .left)) (sym (c .before .is-comment .ensures) ∙ c .if2 .taken)) _ _ _ _ refl refl refl refl
+returns-2 c = let a = c .before .before .before .before .before .before .before .before .before .before .before .before .before .args in parts _ _ (too-long (desk (a .board) (a .words .now) (a .responses .now) (a .bytes .now)) (a .found) (a .line .now) (sym (c .before .before .before .before .before .before .before .is-silent .ensures) ∙ c .before .before .before .before .before .before .if1 .left) (c .before .before .before .before .before .if2 .taken)) _ _ _ _ refl refl refl refl
 
 returns-3 : tie.Need-returns-3
-returns-3 c = let a = c .before .before .before .before .before .before .before .before .before .before .before .before .before .before .before .args in parts _ _ (too-long (desk (a .board) (a .words .now) (a .responses .now) (a .bytes .now)) (a .found) (a .line .now) (not-false _ (c .before .before .before .before .before .before .before .before .if1 .left)) (sym (c .before .before .before .before .before .before .before .is-comment .ensures) ∙ c .before .before .before .before .before .before .if2 .left) (c .before .before .before .before .before .if3 .taken)) _ _ _ _ refl refl refl refl
-
-returns-4 : tie.Need-returns-4
-returns-4 c = let a = c .before .before .before .before .before .before .before .before .before .before .before .before .before .before .before .before .before .before .before .before .before .before .before .args in let k = c .before .before .before .before .before .before .before .before .answer .ensures in parts _ _ (answered (desk (a .board) (a .words .now) (a .responses .now) (a .bytes .now)) (a .found) (a .line .now) (not-false _ (c .before .before .before .before .before .before .before .before .before .before .before .before .before .before .before .before .if1 .left)) (sym (c .before .before .before .before .before .before .before .before .before .before .before .before .before .before .before .is-comment .ensures) ∙ c .before .before .before .before .before .before .before .before .before .before .before .before .before .before .if2 .left) (c .before .before .before .before .before .before .before .before .before .before .before .before .before .if3 .left)) _ _ _ _ (k .0) (k .1 .0) (k .1 .1 .0) (k .1 .1 .1)
+returns-3 c = let a = c .before .before .before .before .before .before .before .before .before .before .before .before .before .before .before .before .before .before .before .before .before .args in let k = c .before .before .before .before .before .before .before .before .answer .ensures in parts _ _ (answered (desk (a .board) (a .words .now) (a .responses .now) (a .bytes .now)) (a .found) (a .line .now) (sym (c .before .before .before .before .before .before .before .before .before .before .before .before .before .before .before .is-silent .ensures) ∙ c .before .before .before .before .before .before .before .before .before .before .before .before .before .before .if1 .left) (c .before .before .before .before .before .before .before .before .before .before .before .before .before .if2 .left)) _ _ _ _ (k .0) (k .1 .0) (k .1 .1 .0) (k .1 .1 .1)
 
 pub take-spec : {M : Type 1} → statement M
 take-spec =
     tie.close
     (tie.spec
+    (λ c κs. search needs)
     returns
     (λ c κs. search needs)
+    (λ c. search needs)
+    (λ c. search needs)
     returns-2
     (λ c κs. search needs)
     (λ c. search needs)
     (λ c. search needs)
-    returns-3
-    (λ c κs. search needs)
     (λ c. search needs)
     (λ c. search needs)
-    (λ c. search needs)
-    (λ c. search needs)
-    returns-4)
+    returns-3)
