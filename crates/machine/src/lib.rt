@@ -2,10 +2,10 @@
 // Document 01: 'The machine', 'One pulse', 'Numbers given when a call is turned down'.
 ghost use mathlib.Core.Path.{_≡_};
 ghost use mathlib.Core.List.{[]};
-ghost use Prim.Native.Nat.{_-_, _^_, _≤_, _<_};
+ghost use Prim.Native.Nat.{_-_, _%_, _^_, _≤_, _<_};
 ghost use Rattle.laws.specs.Bits.{digit};
 ghost use Rattle.machine.specs.Panel.{registers, panelOf, load};
-ghost use Rattle.machine.specs.Machine.{machine, selected};
+ghost use Rattle.machine.specs.Machine.{machine, responseBits, selected};
 ghost use Rattle.machine.specs.Resolution.{lowest};
 ghost use Rattle.machine.specs.Words.{union};
 ghost use Rattle.machine.specs.Refusals.{badSize, badWidth, tooWide, badPanel, badLines, badAddress, inCare, _else_, refuse, refuseWord, machineCheck, commandCheck, bitCheck, apartCheck, careCheck, numberOf};
@@ -212,6 +212,13 @@ pub fn is_selected(key: Response, care: Response, response: Response) -> bool
     ensures { λ s. ⌜ s ≡ selected key care response ⌝ }
 {
     (response & care) == (key & care)
+}
+
+// A number's low bits as a response.
+pub fn response_of(x: u64) -> Response
+    ensures { λ r. ⌜ r ≡ x % 2 ^ responseBits ⌝ }
+{
+    (x % (1u64 << RESPONSE_BITS)) as Response
 }
 
 // ---- a chain of checks: "Checked in number order"
