@@ -11,12 +11,16 @@ ghost use Rattle.listing.specs.Lists as lists;
 pub fn put_refusal(out: &mut [u8], why: Refusal) -> usize
     ensures { λ r. ⌜ Puts (lists.refusalText why) 0 (now (out .entry)) (now (out .exit)) r ⌝ }
 {
-    let n = output::put_named(out, 0, b"refused ", machine::number_of(why));
-    match why {
-        Refusal::WordTooWide(word) => output::put_named(out, n, b" word ", word.0 as u64),
-        Refusal::Malformed(at) => output::put_named(out, n, b" at ", at as u64),
-        _ => n,
+    let number = machine::number_of(why);
+    let also = machine::also_of(why);
+    let n = output::put_named(out, 0, b"refused ", number);
+    if number == 3 {
+        return output::put_named(out, n, b" word ", also);
     }
+    if number == 9 {
+        return output::put_named(out, n, b" at ", also);
+    }
+    n
 }
 
 // ---- the list

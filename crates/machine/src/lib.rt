@@ -8,7 +8,7 @@ ghost use Rattle.machine.specs.Panel.{registers, panelOf, load};
 ghost use Rattle.machine.specs.Machine.{machine, responseBits, selected};
 ghost use Rattle.machine.specs.Resolution.{lowest};
 ghost use Rattle.machine.specs.Words.{union};
-ghost use Rattle.machine.specs.Refusals.{badSize, badWidth, tooWide, badPanel, badLines, badAddress, inCare, _else_, refuse, refuseWord, machineCheck, commandCheck, bitCheck, apartCheck, careCheck, numberOf};
+ghost use Rattle.machine.specs.Refusals.{badSize, badWidth, tooWide, badPanel, badLines, badAddress, inCare, _else_, refuse, refuseWord, machineCheck, commandCheck, bitCheck, apartCheck, careCheck, numberOf, alsoAnswers};
 
 // A word's response bits, and how many they are: named once.
 pub type Response = u8;
@@ -182,6 +182,25 @@ pub fn number_of(why: Refusal) -> u64
         Refusal::Malformed(_) => 9,
         Refusal::NoRoom => 10,
         Refusal::NotShown => 11,
+    }
+}
+
+// What it also answers, 0 for nothing.
+pub fn also_of(why: Refusal) -> u64
+    ensures { λ r. ⌜ r ≡ alsoAnswers why ⌝ }
+{
+    match why {
+        Refusal::Size => 0,
+        Refusal::Width => 0,
+        Refusal::WordTooWide(word) => word.0 as u64,
+        Refusal::PanelTooWide => 0,
+        Refusal::TwoCodes => 0,
+        Refusal::WrongLines => 0,
+        Refusal::NoSuchWord => 0,
+        Refusal::Unfit => 0,
+        Refusal::Malformed(place) => place as u64,
+        Refusal::NoRoom => 0,
+        Refusal::NotShown => 0,
     }
 }
 
