@@ -12,7 +12,7 @@ use Rattle.machine.specs.Refusals.{numberOf, alsoAnswers}
 use Rattle.text.specs.Ascii.{ascii}
 use Rattle.output.specs.Digits.{hexDigits, decimalDigits}
 use Rattle.output.specs.Digits.{pair}
-use Rattle.listing.specs.Lists.{named, named16, named2, alsoText, refusalText}
+use Rattle.listing.specs.Lists.{named, named16, namedResponse, alsoText, refusalText}
 use Rattle.output.proofs.Putting.{length-hex}
 
 -- ---- texts of at most so many bytes
@@ -55,7 +55,7 @@ number name x = both (text name) (decimal 20 x)
 pub word : (name : String) (x : ℕ) → Within (named16 name x) (length (ascii name) + 16)
 word name x = both (text name) (hex x)
 
-pub byte : (name : String) (x : ℕ) → Within (named2 name x) (length (ascii name) + 2)
+pub byte : (name : String) (x : ℕ) → Within (namedResponse name x) (length (ascii name) + 2)
 byte name x = both (text name) (two x)
 
 -- ---- a refusal

@@ -24,8 +24,12 @@ named name x = ascii name ++ decimalDigits 20 x
 abbrev pub named16 : String → ℕ → List ℕ
 named16 name x = ascii name ++ hexDigits 16 x
 
-abbrev pub named2 : String → ℕ → List ℕ
-named2 name x = ascii name ++ pair x
+-- a response or an 8-bit register: "2 for a response or an 8-bit register"
+abbrev pub responseText : ℕ → List ℕ
+responseText x = pair x
+
+abbrev pub namedResponse : String → ℕ → List ℕ
+namedResponse name x = ascii name ++ responseText x
 
 -- ---- refusals: "`refused K`, for number 3 `refused 3 word I`, for number 9 `refused 9 at I`"
 
@@ -41,7 +45,7 @@ refusalText why = named "refused " (numberOf why) ++ alsoText why
 
 -- document 01, figure 13: the word's number, content and response
 abbrev pub wordText : ℕ → ℕ → ℕ → List ℕ
-wordText i word response = named "\n" i ++ ascii " " ++ hexDigits 16 word ++ ascii " " ++ pair response
+wordText i word response = named "\n" i ++ ascii " " ++ hexDigits 16 word ++ ascii " " ++ responseText response
 
 abbrev pub entryText : ℕ → List ℕ → List ℕ → List ℕ
 entryText i words responses =

@@ -2,6 +2,7 @@
 use image::Read;
 use machine::Refusal;
 use machine::Response;
+ghost use mathlib.Core.List.{_++_};
 ghost use Rattle.output.specs.Puts.{Puts};
 ghost use Rattle.listing.specs.Lists as lists;
 
@@ -25,13 +26,20 @@ pub fn put_refusal(out: &mut [u8], why: Refusal) -> usize
 
 // ---- the list
 
+// A name and a response, or an 8-bit register: the place that knows how many digits it has.
+pub fn put_response(out: &mut [u8], at: usize, name: &[u8], response: Response) -> usize
+    ensures { λ r. ⌜ Puts (now (name .entry) ++ lists.responseText response) at (now (out .entry)) (now (out .exit)) r ⌝ }
+{
+    output::put_named2(out, at, name, response)
+}
+
 // "contents hex, 16 and 2 capital digits, other numbers decimal"
 fn put_line(out: &mut [u8], at: usize, i: usize, word: u64, response: Response) -> usize
     ensures { λ r. ⌜ Puts (lists.wordText i word response) at (now (out .entry)) (now (out .exit)) r ⌝ }
 {
     let number = output::put_named(out, at, b"\n", i as u64);
     let content = output::put_named16(out, number, b" ", word);
-    output::put_named2(out, content, b" ", response)
+    put_response(out, content, b" ", response)
 }
 
 fn put_entry(out: &mut [u8], at: usize, i: usize, words: &[u64], responses: &[Response]) -> usize
