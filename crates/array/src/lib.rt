@@ -166,7 +166,7 @@ pub fn mask_of(width: u32, registers: Registers, mask: Mask) -> u64
 {
     match mask {
         Mask::M => registers.m,
-        Mask::Ones => masks::mask_of(width),
+        Mask::Ones => machine::low_bits(width),
         Mask::Zeros => 0,
     }
 }
