@@ -367,7 +367,7 @@ fn digit_of(raised: bool) -> u32
     if raised { 1 } else { 0 }
 }
 
-pub fn bad_lines(lines: Lines) -> bool
+fn bad_lines(lines: Lines) -> bool
     ensures { λ r. ⌜ r ≡ badLines lines ⌝ }
 {
     let raised = digit_of(lines.search)
@@ -380,7 +380,7 @@ pub fn bad_lines(lines: Lines) -> bool
     (raised == 0) | (2 < raised) | (lines.complement & !(raised == 1))
 }
 
-pub fn bad_address(words: usize, panel: Panel, lines: Lines) -> bool
+fn bad_address(words: usize, panel: Panel, lines: Lines) -> bool
     ensures { λ r. ⌜ r ≡ badAddress words panel lines ⌝ }
 {
     (lines.read | lines.write | lines.add) & (words <= panel.address.0)
