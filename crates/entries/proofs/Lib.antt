@@ -1,2 +1,2 @@
 -- one law for both entry points
-pub mod Passed
+pub mod Numbers

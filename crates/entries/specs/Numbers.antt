@@ -3,14 +3,9 @@ use Prim.Native.Nat.{ℕ, _+_, _*_}
 use mathlib.Core.Bool.{Bool}
 use lib.Dec.{eqb}
 use Rattle.laws.specs.Bits.{bit}
-use Rattle.machine.specs.declared.Panel.{Panel}
 use Rattle.machine.specs.declared.Lines.{Lines}
 use Rattle.machine.specs.declared.Answer.{Answer}
 use Rattle.machine.specs.Refusals.{told}
-
--- COMP, SDR, SC1, SC2, MOR, key, care, target, address
-abbrev pub panelOf : ℕ → ℕ → ℕ → ℕ → ℕ → ℕ → ℕ → ℕ → ℕ → Panel
-panelOf c s a b m k r t w = record { comp = c; sdr = s; sc1 = a; sc2 = b; mor = m; key = k; care = r; target = t; address = record { 0 = w } }
 
 -- a bit for each line, search lowest, in document 01's order
 abbrev pub raised : ℕ → ℕ → Bool

@@ -5,10 +5,12 @@ use machine::Panel;
 use machine::Response;
 use machine::WordSlice;
 ghost use mathlib.Core.Path.{_≡_};
+ghost use mathlib.Core.List.{[], _∷_};
 ghost use Prim.Native.Nat.{_<_};
+ghost use Rattle.machine.specs.Panel.{panelOf};
 ghost use Rattle.machine.specs.Machine.{machine};
 ghost use Rattle.machine.specs.Refusals.{answerOf, after};
-ghost use Rattle.entries.specs.Numbers.{panelOf, raised, linesOf, resultOf};
+ghost use Rattle.entries.specs.Numbers.{raised, linesOf, resultOf};
 
 fn is_raised(lines: u8, i: u32) -> bool
     requires { ⌜ i < 8 ⌝ }
@@ -29,6 +31,33 @@ fn lines_of(lines: u8) -> Lines
         multiadd: is_raised(lines, 5),
         complement: is_raised(lines, 6),
     }
+}
+
+fn panel_of(
+    comp: u64,
+    sdr: u64,
+    sc1: u64,
+    sc2: u64,
+    mor: u64,
+    key: Response,
+    care: Response,
+    target: Response,
+    address: usize,
+) -> Panel
+    ensures { λ r. ⌜ r ≡ panelOf (comp ∷ sdr ∷ sc1 ∷ sc2 ∷ mor ∷ key ∷ care ∷ target ∷ address ∷ []) ⌝ }
+{
+    let mut panel = Panel::blank();
+    panel.comp = comp;
+    panel.sdr = sdr;
+    panel.sc1 = sc1;
+    panel.sc2 = sc2;
+    panel.mor = mor;
+    panel.key = key;
+    panel.care = care;
+    panel.target = target;
+    let word = WordSlice(address);
+    panel.address = word;
+    panel
 }
 
 fn result_of(answer: Answer) -> u64
@@ -56,21 +85,11 @@ pub extern "C" fn dushvaneth_wide_pulse(
     address: usize,
     lines: u8,
 ) -> u64
-    ensures { λ r. ⌜ r ≡ resultOf (answerOf (machine width (now (words .entry)) (now (responses .entry))) (panelOf comp sdr sc1 sc2 mor key care target address) (linesOf lines)) ⌝ }
-    ensures { λ r. ⌜ now (words .exit) ≡ after (machine width (now (words .entry)) (now (responses .entry))) (panelOf comp sdr sc1 sc2 mor key care target address) (linesOf lines) .words ⌝ }
-    ensures { λ r. ⌜ now (responses .exit) ≡ after (machine width (now (words .entry)) (now (responses .entry))) (panelOf comp sdr sc1 sc2 mor key care target address) (linesOf lines) .responses ⌝ }
+    ensures { λ r. ⌜ r ≡ resultOf (answerOf (machine width (now (words .entry)) (now (responses .entry))) (panelOf (comp ∷ sdr ∷ sc1 ∷ sc2 ∷ mor ∷ key ∷ care ∷ target ∷ address ∷ [])) (linesOf lines)) ⌝ }
+    ensures { λ r. ⌜ now (words .exit) ≡ after (machine width (now (words .entry)) (now (responses .entry))) (panelOf (comp ∷ sdr ∷ sc1 ∷ sc2 ∷ mor ∷ key ∷ care ∷ target ∷ address ∷ [])) (linesOf lines) .words ⌝ }
+    ensures { λ r. ⌜ now (responses .exit) ≡ after (machine width (now (words .entry)) (now (responses .entry))) (panelOf (comp ∷ sdr ∷ sc1 ∷ sc2 ∷ mor ∷ key ∷ care ∷ target ∷ address ∷ [])) (linesOf lines) .responses ⌝ }
 {
-    let panel = Panel {
-        comp,
-        sdr,
-        sc1,
-        sc2,
-        mor,
-        key,
-        care,
-        target,
-        address: WordSlice(address),
-    };
+    let panel = panel_of(comp, sdr, sc1, sc2, mor, key, care, target, address);
     result_of(wide::pulse(words, responses, width, panel, lines_of(lines)))
 }
 
@@ -90,20 +109,10 @@ pub extern "C" fn dushvaneth_cells_pulse(
     address: usize,
     lines: u8,
 ) -> u64
-    ensures { λ r. ⌜ r ≡ resultOf (answerOf (machine width (now (words .entry)) (now (responses .entry))) (panelOf comp sdr sc1 sc2 mor key care target address) (linesOf lines)) ⌝ }
-    ensures { λ r. ⌜ now (words .exit) ≡ after (machine width (now (words .entry)) (now (responses .entry))) (panelOf comp sdr sc1 sc2 mor key care target address) (linesOf lines) .words ⌝ }
-    ensures { λ r. ⌜ now (responses .exit) ≡ after (machine width (now (words .entry)) (now (responses .entry))) (panelOf comp sdr sc1 sc2 mor key care target address) (linesOf lines) .responses ⌝ }
+    ensures { λ r. ⌜ r ≡ resultOf (answerOf (machine width (now (words .entry)) (now (responses .entry))) (panelOf (comp ∷ sdr ∷ sc1 ∷ sc2 ∷ mor ∷ key ∷ care ∷ target ∷ address ∷ [])) (linesOf lines)) ⌝ }
+    ensures { λ r. ⌜ now (words .exit) ≡ after (machine width (now (words .entry)) (now (responses .entry))) (panelOf (comp ∷ sdr ∷ sc1 ∷ sc2 ∷ mor ∷ key ∷ care ∷ target ∷ address ∷ [])) (linesOf lines) .words ⌝ }
+    ensures { λ r. ⌜ now (responses .exit) ≡ after (machine width (now (words .entry)) (now (responses .entry))) (panelOf (comp ∷ sdr ∷ sc1 ∷ sc2 ∷ mor ∷ key ∷ care ∷ target ∷ address ∷ [])) (linesOf lines) .responses ⌝ }
 {
-    let panel = Panel {
-        comp,
-        sdr,
-        sc1,
-        sc2,
-        mor,
-        key,
-        care,
-        target,
-        address: WordSlice(address),
-    };
+    let panel = panel_of(comp, sdr, sc1, sc2, mor, key, care, target, address);
     result_of(cells::pulse(words, responses, width, panel, lines_of(lines)))
 }

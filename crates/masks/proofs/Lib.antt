@@ -1,3 +1,3 @@
 -- what ties the masks to the machine's definitions
 pub mod Words
-pub mod Bridge
+pub mod Plan

@@ -1,5 +1,5 @@
 // What a pulse works out of the panel once, by whole words: masks, tags and changes for the sweeps.
-// Document 01, 'One pulse'; that they do what it says is the law proofs/Bridge.
+// Document 01, 'One pulse'; that they do what it says is the law proofs/Plan.
 use machine::Panel;
 use sweeps::Changes;
 use sweeps::Masks;

@@ -9,7 +9,7 @@ use lib.Seq.{length-take-le}
 use Rattle.laws.specs.Bits.{digit}
 use Rattle.laws.specs.Lists.{count}
 use Rattle.sweeps.specs.Along.{along}
-use Rattle.sweeps.proofs.Walks.{Walk, block, Tally, block-counts}
+use Rattle.sweeps.proofs.Along.{Walk, block, Tally, block-counts}
 
 -- the part from i to e
 abbrev pub between : ℕ → ℕ → List ℕ → List ℕ

@@ -1,4 +1,4 @@
 -- laws of walks over one list beside another
-pub mod Walks
+pub mod Along
 pub mod Blocks
 pub mod Searched

@@ -12,7 +12,7 @@ use Rattle.sweeps.specs.declared.Masks.{Masks}
 use Rattle.sweeps.specs.declared.Tags.{Tags}
 use Rattle.sweeps.specs.Along.{along, many}
 use Rattle.sweeps.specs.Rules.{flag, chosen, hit, mark, found, answer, choice, gated, changed, takes}
-use Rattle.sweeps.proofs.Walks.{Walk, Tally}
+use Rattle.sweeps.proofs.Along.{Walk, Tally}
 use Rattle.sweeps.proofs.Blocks.{between, replaced, length-between, to-end, counts-to-end, Flags, by-flags, count-flags}
 
 many-first : (h : ℕ → Bool) (us vs : List ℕ) → length us ≡ length vs → many h us ≡ count (λ x y. h x) us vs

@@ -22,7 +22,7 @@ use Rattle.sweeps.specs.Rules.{chosen, found, answer, new, changed, takes, flip
 use Rattle.masks.specs.Plan.{Fit, masksOf, tagsOf, changesOf}
 use Rattle.wide.specs.Accepted.{Accepted, multiAfter}
 use Rattle.wide.proofs.Lists.{second-along, first-along, second-each, first-stays, second-stays, count-turned, zip-like, count-like, zip-same, zip-set}
-use Rattle.masks.proofs.Bridge.{chosen-is, found-is, answer-is, flipped-as, new-is, changed-is}
+use Rattle.masks.proofs.Plan.{chosen-is, found-is, answer-is, flipped-as, new-is, changed-is}
 
 module _ (n : ℕ) (p : Panel) (l : Lines) (ws rs : List ℕ) (a : Accepted n p l ws rs)
     (care : p .care < 2 ^ responseBits) (target : p .target < 2 ^ responseBits) (bytes : (j : ℕ) → getD rs j 0 < 2 ^ responseBits) where

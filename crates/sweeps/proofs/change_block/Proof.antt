@@ -6,7 +6,7 @@ use lib.Dec.{eqb}
 use Rattle.laws.specs.Bits.{pick}
 use Rattle.sweeps.specs.declared.Changes.{Changes}
 use Rattle.sweeps.specs.Rules.{gated, new}
-use Rattle.sweeps.proofs.Walks.{along-same}
+use Rattle.sweeps.proofs.Along.{along-same}
 use borrow.Author.Needs.{needs}
 use Rattle.sweeps.proofs.change_block.Statement.{statement}
 use Rattle.sweeps.proofs.change_block.Tie as tie

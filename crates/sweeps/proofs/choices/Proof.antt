@@ -9,7 +9,7 @@ use lib.Seq.{getD-set-same, getD-set-other}
 use Rattle.laws.specs.Bits.{digit}
 use Rattle.sweeps.specs.declared.Tags.{Tags}
 use Rattle.sweeps.specs.Rules.{chosen, choice}
-use Rattle.sweeps.proofs.Walks.{Tally, none-yet, step-counts, all-counted, many-is}
+use Rattle.sweeps.proofs.Along.{Tally, none-yet, step-counts, all-counted, many-is}
 use borrow.Author.Needs.{needs}
 use Rattle.sweeps.proofs.choices.Statement.{statement}
 use Rattle.sweeps.proofs.choices.Tie as tie

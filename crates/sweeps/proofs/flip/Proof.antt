@@ -3,7 +3,7 @@ use Prim.Native.Nat.{_-_}
 use mathlib.Core.Path.{sym, _∙_}
 use lib.ListN.{length}
 use Rattle.sweeps.specs.Rules.{flipped}
-use Rattle.sweeps.proofs.Walks.{Walk, start, step, finish, each-is}
+use Rattle.sweeps.proofs.Along.{Walk, start, step, finish, each-is}
 use borrow.Author.Needs.{needs}
 use Rattle.sweeps.proofs.flip.Statement.{statement}
 use Rattle.sweeps.proofs.flip.Tie as tie

@@ -6,7 +6,7 @@ use native.Mathlib.Omega.{arith}
 use lib.ListN.{length, getD}
 use Rattle.sweeps.specs.declared.Tags.{Tags}
 use Rattle.sweeps.specs.Rules.{hit, mark, put}
-use Rattle.sweeps.proofs.Walks.{Walk, start, step, here, finish, Tally, none-yet, step-counts, all-counted, byte-is, byte-le}
+use Rattle.sweeps.proofs.Along.{Walk, start, step, here, finish, Tally, none-yet, step-counts, all-counted, byte-is, byte-le}
 use borrow.Author.Needs.{needs}
 use Rattle.sweeps.proofs.marks.Statement.{statement}
 use Rattle.sweeps.proofs.marks.Tie as tie

@@ -7,7 +7,7 @@ use lib.ListN.{length, getD}
 use Rattle.laws.specs.Bits.{pick}
 use Rattle.sweeps.specs.declared.Changes.{Changes}
 use Rattle.sweeps.specs.Rules.{gated, new, summed}
-use Rattle.sweeps.proofs.Walks.{Walk, start, step, finish}
+use Rattle.sweeps.proofs.Along.{Walk, start, step, finish}
 use borrow.Author.Needs.{needs}
 use Rattle.sweeps.proofs.multiadd.Statement.{statement}
 use Rattle.sweeps.proofs.multiadd.Tie as tie

@@ -8,7 +8,7 @@ use Rattle.laws.specs.Bits.{pick}
 use lib.Bits.{bitOr}
 use Rattle.sweeps.specs.declared.Changes.{Changes}
 use Rattle.sweeps.specs.Rules.{gated, new, written, summed}
-use Rattle.sweeps.proofs.Walks.{Walk, start, step, finish}
+use Rattle.sweeps.proofs.Along.{Walk, start, step, finish}
 use borrow.Author.Needs.{needs}
 use Rattle.sweeps.proofs.multiboth.Statement.{statement}
 use Rattle.sweeps.proofs.multiboth.Tie as tie

@@ -4,7 +4,7 @@ use mathlib.Core.Path.{_≡_, refl, _∙_}
 use native.Mathlib.Omega.{arith}
 use lib.ListN.{length}
 use Rattle.sweeps.specs.Rules.{found, answer}
-use Rattle.sweeps.proofs.Walks.{Walk, start, finish, Tally, none-yet, all-counted}
+use Rattle.sweeps.proofs.Along.{Walk, start, finish, Tally, none-yet, all-counted}
 use Rattle.sweeps.proofs.Blocks.{length-between}
 use Rattle.sweeps.proofs.Searched.{searched}
 use borrow.Author.Needs.{needs}

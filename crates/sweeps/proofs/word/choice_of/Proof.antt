@@ -2,7 +2,7 @@
 use mathlib.Core.Path.{ap, _∙_}
 use Rattle.laws.specs.Bits.{digit}
 use Rattle.sweeps.specs.Rules.{choice}
-use Rattle.sweeps.proofs.Walks.{byte-is}
+use Rattle.sweeps.proofs.Along.{byte-is}
 use borrow.Author.Needs.{needs}
 use Rattle.sweeps.proofs.word.choice_of.Statement.{statement}
 use Rattle.sweeps.proofs.word.choice_of.Tie as tie

@@ -4,7 +4,7 @@ use mathlib.Core.Path.{ap, _∙_}
 use lib.Dec.{eqb}
 use Rattle.laws.specs.Bits.{digit}
 use Rattle.sweeps.specs.Rules.{flag}
-use Rattle.sweeps.proofs.Walks.{byte-is}
+use Rattle.sweeps.proofs.Along.{byte-is}
 use borrow.Author.Needs.{needs}
 use Rattle.sweeps.proofs.word.flag_of.Statement.{statement}
 use Rattle.sweeps.proofs.word.flag_of.Tie as tie
