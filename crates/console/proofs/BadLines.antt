@@ -86,7 +86,7 @@ module _ (d : Desk) (args : List (List ℕ)) where
   markings-still =
       let pulse = pulse-still (linesOf args) (machineOf d) (d .board .panel) (d .board) in
       let row = values "bba" args in
-      let answer = replied-other (replyOf (byteAt row 0) (byteAt row 1) (wordIn row) (machineOf d)) in
+      let answer = replied-other (replyOf (bitIn row 0) (bitIn row 1) (wordIn row) (machineOf d)) in
       (λ e. rw (wrong (hits "ax" args (d .words)) _ e fine-other) (refl, refl, refl))
       and (λ e. rw (wrong (hits "ah" args (d .responses)) _ e fine-other) (refl, refl, refl))
       and pulse

@@ -1,28 +1,14 @@
 -- What a command leaves of the board, in the words of docs/BOARD.md.
 use Prim.Native.Nat.{ℕ}
-use Rattle.machine.specs.declared.Panel.{Panel}
+use mathlib.Core.List.{[]}
+use Rattle.machine.specs.Panel.{panelOf}
 use Rattle.job_plans.specs.declared.Held.{Held}
 use Rattle.job_plans.specs.declared.Held.the-variants.{Nothing}
 use Rattle.console_commands.specs.declared.Board.{Board}
 
--- "panel all 0"
-abbrev pub blank : Panel
-blank =
-    record {
-      comp = 0;
-      sdr = 0;
-      sc1 = 0;
-      sc2 = 0;
-      mor = 0;
-      key = 0;
-      care = 0;
-      target = 0;
-      address = record { 0 = 0 };
-    }
-
 -- "width N, n words and n responses, all 0; panel all 0; no job"
 abbrev pub freshBoard : ℕ → ℕ → Board
-freshBoard width n = record { width = width; words = n; responses = n; panel = blank; held = Nothing }
+freshBoard width n = record { width = width; words = n; responses = n; panel = panelOf []; held = Nothing }
 
 -- the board with another held job, or none
 abbrev pub holding : Board → Held → Board

@@ -1,5 +1,5 @@
 // What the console's commands have in common: the board they work on, how a command ends, and a job as a line writes it.
-// The commands stand in `setting`, `pulsing`, `working` and `storing`: each takes the rest of its line apart, gives it to the
+// The commands stand in `console_setting`, `console_pulsing`, `console_working` and `console_storing`: each takes the rest of its line apart, gives it to the
 // library and hands back the library's answer, to be printed. docs/BOARD.md has the language. "The console checks nothing that
 // document 01 gives a refusal for": what a command turns down itself is a line that is none of its own.
 use job_plans::Command;
@@ -9,6 +9,7 @@ use job_plans::Span;
 use machine::BitSlice;
 use machine::Panel;
 use machine::Refusal;
+use machine::ResponseBit;
 use machine::WordSlice;
 use text::numbers;
 ghost use mathlib.Core.Path.{_≡_};
@@ -60,21 +61,12 @@ pub struct Turn {
 pub fn fresh(width: u32, words: usize) -> Board
     ensures { λ r. ⌜ r ≡ freshBoard width words ⌝ }
 {
+    let panel = Panel::blank();
     Board {
         width,
         words,
         responses: words,
-        panel: Panel {
-            comp: 0,
-            sdr: 0,
-            sc1: 0,
-            sc2: 0,
-            mor: 0,
-            key: 0,
-            care: 0,
-            target: 0,
-            address: WordSlice(0),
-        },
+        panel,
         held: Held::Nothing,
     }
 }
@@ -139,10 +131,10 @@ pub fn job_of(row: [u64; 16]) -> Job
 {
     Job {
         kind: numbers::byte(row[0]),
-        key: numbers::byte(row[1]),
-        care: numbers::byte(row[2]),
-        x: numbers::byte(row[3]),
-        y: numbers::byte(row[4]),
+        key: machine::response_of(row[1]),
+        care: machine::response_of(row[2]),
+        x: ResponseBit(numbers::byte(row[3])),
+        y: ResponseBit(numbers::byte(row[4])),
         a: span(row[5], row[6]),
         b: span(row[7], row[8]),
         p: span(row[9], row[10]),

@@ -7,6 +7,7 @@ use Rattle.machine.specs.declared.Panel.{Panel}
 use Rattle.machine.specs.declared.Lines.{Lines}
 use Rattle.machine.specs.declared.Answer.{Answer}
 use Rattle.machine.specs.declared.WordSlice.{WordSlice}
+use Rattle.machine.specs.declared.ResponseBit.{ResponseBit}
 use Rattle.machine.specs.Machine.{Machine}
 use Rattle.machine.specs.Refusals.{answerOf, after}
 use Rattle.resolver.specs.declared.Resolved.{Resolved}
@@ -20,6 +21,10 @@ use Rattle.console_commands.specs.declared.Outcome.the-variants.{BadLine}
 use Rattle.console_pulsing.specs.declared.Named.{Named}
 use Rattle.console_pulsing.specs.declared.Named.the-variants.{Are, Bad}
 use Rattle.console_pulsing.specs.Calls.{told, found, replied, wordIn, pulseOutcome, pulseAfter, resolveOutcome, showOutcome, answerOutcome, answerAfter}
+
+-- a response bit is its number
+same-bit : (x : ResponseBit) (k : ℕ) → x .0 ≡ k → x ≡ record { 0 = k }
+same-bit x k e = λ i. record { 0 = e i }
 
 -- ---- pulse and cells: `is` is what read_lines tells of the words
 
@@ -48,15 +53,16 @@ module _ (args : List (List ℕ)) (m : Machine) (b : Bool) where
     pub show-bad : b ≡ false → BadLine ≡ showOutcome args m
     show-bad e = rw (← is, e)
 
-    pub show-found : b ≡ true → (row : List ℕ) → row ≡ values "b" args → (x : ℕ) → x ≡ byteAt row 0 → (s : Resolved) (r : Outcome) →
+    pub show-found : b ≡ true → (row : List ℕ) → row ≡ values "b" args → (x : ResponseBit) → x .0 ≡ byteAt row 0 → (s : Resolved) (r : Outcome) →
         s ≡ showOf x m → r ≡ found s → r ≡ showOutcome args m
-    show-found e row h x f s r g k = rw (← is, e, k, g, f, h)
+    show-found e row h x f s r g k = rw (← is, e, k, g, same-bit x (byteAt row 0) f, h)
 
   module _ (is : b ≡ fits "bba" args) (v : Verdict) where
     pub answer-bad : b ≡ false → (BadLine ≡ answerOutcome args m) × (m .responses ≡ answerAfter args v m .responses)
     answer-bad e = rw (← is, e) (refl, refl)
 
-    pub answer-replied : b ≡ true → (row : List ℕ) → row ≡ values "bba" args → (x f : ℕ) → x ≡ byteAt row 0 → f ≡ byteAt row 1 →
+    pub answer-replied : b ≡ true → (row : List ℕ) → row ≡ values "bba" args → (x f : ResponseBit) → x .0 ≡ byteAt row 0 → f .0 ≡ byteAt row 1 →
         (w : WordSlice) → w ≡ wordIn row → (s : Reply) (r : Outcome) (rs : List ℕ) → s ≡ replyOf x f w m → r ≡ replied s →
         rs ≡ afterAnswer x f w v m .responses → (r ≡ answerOutcome args m) × (rs ≡ answerAfter args v m .responses)
-    answer-replied e row h x f i j w k s r rs g o q = rw (← is, e, o, q, g, k, i, j, h) (refl, refl)
+    answer-replied e row h x f i j w k s r rs g o q =
+        rw (← is, e, o, q, g, k, same-bit x (byteAt row 0) i, same-bit f (byteAt row 1) j, h) (refl, refl)

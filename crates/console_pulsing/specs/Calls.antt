@@ -5,6 +5,7 @@ use mathlib.Core.List.{List}
 use Rattle.laws.specs.Bits.{pick}
 use Rattle.machine.specs.declared.Panel.{Panel}
 use Rattle.machine.specs.declared.WordSlice.{WordSlice}
+use Rattle.machine.specs.declared.ResponseBit.{ResponseBit}
 use Rattle.machine.specs.declared.Answer.{Answer}
 use Rattle.machine.specs.declared.Answer.the-variants as answer
 use Rattle.machine.specs.Machine.{Machine}
@@ -50,9 +51,13 @@ found (resolved.Refused why) = outcome.Refused why
 abbrev pub resolveOutcome : List (List ℕ) → Machine → Panel → Outcome
 resolveOutcome args m p = pick (fits "" args) (found (resolution (p .key) (p .care) m)) outcome.BadLine
 
+-- number k of a row, as a response bit's
+abbrev pub bitIn : List ℕ → ℕ → ResponseBit
+bitIn row k = record { 0 = byteAt row k }
+
 -- "show X: the round's next word; X 0 to 255"
 abbrev pub showOutcome : List (List ℕ) → Machine → Outcome
-showOutcome args m = pick (fits "b" args) (found (showOf (byteAt (values "b" args) 0) m)) outcome.BadLine
+showOutcome args m = pick (fits "b" args) (found (showOf (bitIn (values "b" args) 0) m)) outcome.BadLine
 
 -- ---- done and faulty
 
@@ -68,9 +73,9 @@ wordIn row = record { 0 = numberAt row 2 }
 abbrev pub answerOutcome : List (List ℕ) → Machine → Outcome
 answerOutcome args m =
     let row = values "bba" args in
-    pick (fits "bba" args) (replied (replyOf (byteAt row 0) (byteAt row 1) (wordIn row) m)) outcome.BadLine
+    pick (fits "bba" args) (replied (replyOf (bitIn row 0) (bitIn row 1) (wordIn row) m)) outcome.BadLine
 
 abbrev pub answerAfter : List (List ℕ) → Verdict → Machine → Machine
 answerAfter args verdict m =
     let row = values "bba" args in
-    pick (fits "bba" args) (afterAnswer (byteAt row 0) (byteAt row 1) (wordIn row) verdict m) m
+    pick (fits "bba" args) (afterAnswer (bitIn row 0) (bitIn row 1) (wordIn row) verdict m) m

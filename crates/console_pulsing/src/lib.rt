@@ -5,6 +5,7 @@ use console_commands::Outcome;
 use machine::Answer;
 use machine::Lines;
 use machine::Response;
+use machine::ResponseBit;
 use machine::WordSlice;
 use resolver::Resolved;
 use rounds::Reply;
@@ -162,10 +163,10 @@ pub fn tree(board: Board, rest: &[u8], words: &[u64], responses: &[Response]) ->
     resolved(resolver::network(words, responses, board.width, panel.key, panel.care))
 }
 
-fn response_bit(x: u64) -> u32
-    ensures { λ r. ⌜ r ≡ x % 256 ⌝ }
+fn response_bit(x: u64) -> ResponseBit
+    ensures { λ r. ⌜ r .0 ≡ x % 256 ⌝ }
 {
-    numbers::byte(x) as u32
+    ResponseBit(numbers::byte(x))
 }
 
 // show X

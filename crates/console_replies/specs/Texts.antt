@@ -9,7 +9,7 @@ use Rattle.machine.specs.declared.Panel.{Panel}
 use Rattle.job_plans.specs.declared.Command.{Command}
 use Rattle.text.specs.Ascii.{ascii}
 use Rattle.output.specs.Digits.{pair}
-use Rattle.listing.specs.Lists.{named, named16, named2, refusalText, listText}
+use Rattle.listing.specs.Lists.{named, named16, namedResponse, refusalText, listText}
 use Rattle.console_commands.specs.declared.Outcome.{Outcome}
 use Rattle.console_commands.specs.declared.Outcome.the-variants as outcome
 
@@ -21,7 +21,7 @@ registersText p =
 
 -- the panel but for its address
 abbrev pub panelText : Panel → List ℕ
-panelText p = registersText p ++ named2 " key " (p .key) ++ named2 " care " (p .care) ++ named2 " target " (p .target)
+panelText p = registersText p ++ namedResponse " key " (p .key) ++ namedResponse " care " (p .care) ++ namedResponse " target " (p .target)
 
 -- ---- a step: "L comp HEX .. count C held", "`ended` in place of `held` after the last pulse"
 

@@ -28,9 +28,9 @@ fn put_panel(out: &mut [u8], at: usize, panel: Panel) -> usize
     ensures { λ r. ⌜ Puts (texts.panelText panel) at (now (out .entry)) (now (out .exit)) r ⌝ }
 {
     let registers = put_registers(out, at, panel);
-    let key = output::put_named2(out, registers, b" key ", panel.key);
-    let care = output::put_named2(out, key, b" care ", panel.care);
-    output::put_named2(out, care, b" target ", panel.target)
+    let key = listing::put_response(out, registers, b" key ", panel.key);
+    let care = listing::put_response(out, key, b" care ", panel.care);
+    listing::put_response(out, care, b" target ", panel.target)
 }
 
 // ---- the other lines

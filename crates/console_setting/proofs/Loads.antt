@@ -20,7 +20,8 @@ use Rattle.text.proofs.Runs.{here-none, here-one, here-ordered}
 use Rattle.console_commands.specs.declared.Board.{Board}
 use Rattle.console_commands.specs.Ends.{badLine, fine}
 use Rattle.console_setting.proofs.Letters.{taken}
-use Rattle.console_setting.specs.Settings.{panelOf, withPanel, registerNames, letterFor, loadedAt, loaded}
+use Rattle.machine.specs.Panel.{panelOf}
+use Rattle.console_setting.specs.Settings.{withPanel, registerNames, letterFor, loadedAt, loaded}
 
 -- ---- what the definitions say
 

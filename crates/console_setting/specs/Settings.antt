@@ -8,7 +8,7 @@ use lib.Dec.{ltb}
 use lib.ListN.{length, replicate, getD, set}
 use Rattle.laws.specs.Bits.{pick}
 use Rattle.machine.specs.declared.Panel.{Panel}
-use Rattle.machine.specs.Panel.{load}
+use Rattle.machine.specs.Panel.{panelOf, load}
 use Rattle.job_plans.specs.declared.Job.{Job}
 use Rattle.job_plans.specs.declared.Held.the-variants.{Nothing, Holds}
 use Rattle.text.specs.Ascii.{ascii}
@@ -20,7 +20,7 @@ use Rattle.console_commands.specs.declared.Outcome.{Outcome}
 use Rattle.console_commands.specs.declared.Outcome.the-variants as outcome
 use Rattle.console_commands.specs.Boards.{freshBoard, holding}
 use Rattle.console_commands.specs.Ends.{badLine, fine}
-use Rattle.console_commands.specs.Jobs.{jobOf}
+use Rattle.console_commands.specs.Jobs.{responseAt, jobOf}
 
 -- ---- the buffers
 
@@ -53,24 +53,9 @@ wordWritten args words = let row = values "ax" args in pick (hits "ax" args word
 -- "response I HEX", "HEX at most FF"
 abbrev pub responseWritten : List (List ℕ) → List ℕ → List ℕ
 responseWritten args responses =
-    let row = values "ah" args in pick (hits "ah" args responses) (set responses (numberAt row 0) (byteAt row 1)) responses
+    let row = values "ah" args in pick (hits "ah" args responses) (set responses (numberAt row 0) (responseAt row 1)) responses
 
 -- ---- the panel
-
--- the panel of these nine registers
-abbrev pub panelOf : List ℕ → Panel
-panelOf row =
-    record {
-      comp = getD row 0 0;
-      sdr = getD row 1 0;
-      sc1 = getD row 2 0;
-      sc2 = getD row 3 0;
-      mor = getD row 4 0;
-      key = getD row 5 0;
-      care = getD row 6 0;
-      target = getD row 7 0;
-      address = record { 0 = getD row 8 0 };
-    }
 
 abbrev pub withPanel : Board → Panel → Board
 withPanel b p = record { width = b .width; words = b .words; responses = b .responses; panel = p; held = b .held }

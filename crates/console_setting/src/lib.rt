@@ -100,7 +100,7 @@ pub fn write_response(rest: &[u8], responses: &mut [Response]) -> Outcome
     if responses.len() <= i {
         return Outcome::BadLine;
     }
-    responses[i] = numbers::byte(row.values[1]);
+    responses[i] = machine::response_of(row.values[1]);
     Outcome::Fine
 }
 

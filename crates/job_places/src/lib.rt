@@ -1,5 +1,5 @@
 // The places of a job: which are in the table, the first, and the one after a pulse; and number 8 of a held job.
-// Document 01: 'Jobs', 'The image' (phase, i and j) and number 8. The definitions are in `plans`.
+// Document 01: 'Jobs', 'The image' (phase, i and j) and number 8. The definitions are in `job_plans`.
 use job_plans::Held;
 use job_plans::Job;
 use job_plans::Span;
@@ -8,6 +8,9 @@ use machine::BitSlice;
 use machine::Check;
 use machine::Refusal;
 use machine::Response;
+use machine::ResponseBit;
+use machine::in_order;
+use machine::refuse;
 ghost use mathlib.Core.Path.{_≡_};
 ghost use Prim.Native.Nat.{_+_, _-_, _<_};
 ghost use lib.Dec.{eqb};
@@ -19,28 +22,28 @@ ghost use Rattle.job_plans.specs.Places as places;
 
 // ---- "A place outside the job's table is malformed."
 
-pub fn at_place(o: Job) -> bool
+fn at_place(o: Job) -> bool
     ensures { λ r. ⌜ r ≡ places.atPlace o ⌝ }
 {
     (o.phase == 1) | (o.phase == 2)
 }
 
 // "In phase 0, i is a-1; phase 0 is for extremes only"
-pub fn extreme_place(o: Job) -> bool
+fn extreme_place(o: Job) -> bool
     ensures { λ r. ⌜ r ≡ places.extremePlace o ⌝ }
 {
     ((o.phase == 0) & (o.i as u32 + 1 == o.a.width as u32)) | (at_place(o) & (o.i < o.a.width))
 }
 
 // "for place i from 0 below the smaller of the widths a and p"
-pub fn scaled_place(o: Job) -> bool
+fn scaled_place(o: Job) -> bool
     ensures { λ r. ⌜ r ≡ places.scaledPlace o ⌝ }
 {
     at_place(o) & (o.i < o.a.width) & (o.i < o.p.width)
 }
 
 // "for i from 0 below a, and within it j from 0 below b, with i+j below p"
-pub fn product_place(o: Job) -> bool
+fn product_place(o: Job) -> bool
     ensures { λ r. ⌜ r ≡ places.productPlace o ⌝ }
 {
     let sum = o.i as u32 + o.j as u32;
@@ -48,7 +51,7 @@ pub fn product_place(o: Job) -> bool
     at_place(o) & (o.i < o.a.width) & (o.j < o.b.width) & (sum < p)
 }
 
-pub fn in_table(o: Job) -> bool
+fn in_table(o: Job) -> bool
     ensures { λ r. ⌜ r ≡ places.inTable o ⌝ }
 {
     let kind = o.kind;
@@ -64,13 +67,13 @@ pub fn in_table(o: Job) -> bool
 // ---- "Starting a job sets its first place, and its unused fields to 0."
 
 // "In phase 0, i is a-1".
-pub fn top_place(s: Span) -> u8
+fn top_place(s: Span) -> u8
     ensures { λ r. ⌜ r ≡ s .width - 1 ⌝ }
 {
     if s.width == 0 { 0 } else { s.width - 1 }
 }
 
-pub fn first_extreme(o: Job) -> Job
+fn first_extreme(o: Job) -> Job
     ensures { λ r. ⌜ r ≡ places.firstFor greatest o ⌝ }
 {
     let mut q = o;
@@ -87,7 +90,7 @@ pub fn first_extreme(o: Job) -> Job
     q
 }
 
-pub fn first_scaled_add(o: Job) -> Job
+fn first_scaled_add(o: Job) -> Job
     ensures { λ r. ⌜ r ≡ places.firstFor scaledAdd o ⌝ }
 {
     let mut q = o;
@@ -95,7 +98,8 @@ pub fn first_scaled_add(o: Job) -> Job
         low: BitSlice(0),
         width: 0,
     };
-    q.x = 0;
+    let no_bit = ResponseBit(0);
+    q.x = no_bit;
     q.b = none;
     q.phase = 1;
     q.i = 0;
@@ -103,11 +107,12 @@ pub fn first_scaled_add(o: Job) -> Job
     q
 }
 
-pub fn first_product(o: Job) -> Job
+fn first_product(o: Job) -> Job
     ensures { λ r. ⌜ r ≡ places.firstFor product o ⌝ }
 {
     let mut q = o;
-    q.x = 0;
+    let no_bit = ResponseBit(0);
+    q.x = no_bit;
     q.phase = 1;
     q.i = 0;
     q.j = 0;
@@ -139,7 +144,7 @@ pub fn is_at_first(o: Job) -> bool
 // ---- the place after a pulse
 
 // The same job at another place.
-pub fn moved(o: Job, phase: u8, i: u8, j: u8) -> Job
+fn moved(o: Job, phase: u8, i: u8, j: u8) -> Job
     ensures { λ r. ⌜ r ≡ places.moved o phase i j ⌝ }
 {
     let mut q = o;
@@ -150,7 +155,7 @@ pub fn moved(o: Job, phase: u8, i: u8, j: u8) -> Job
 }
 
 // Extremes: "for each place from the top".
-pub fn next_below(o: Job) -> Held
+fn next_below(o: Job) -> Held
     ensures { λ r. ⌜ r ≡ places.nextBelow o (o .i) ⌝ }
 {
     let i = o.i;
@@ -162,7 +167,7 @@ pub fn next_below(o: Job) -> Held
 }
 
 // The others: "for place i from 0 below the smaller of the widths a and p".
-pub fn next_above(o: Job) -> Held
+fn next_above(o: Job) -> Held
     requires { ⌜ o .i < 64 ⌝ }
     ensures { λ r. ⌜ r ≡ places.nextAbove o ⌝ }
 {
@@ -175,7 +180,7 @@ pub fn next_above(o: Job) -> Held
 }
 
 // "and within it j from 0 below b, with i+j below p"
-pub fn next_within(o: Job) -> Held
+fn next_within(o: Job) -> Held
     requires { ⌜ (o .i < 64) × (o .j < 64) ⌝ }
     ensures { λ r. ⌜ r ≡ places.nextWithin o ⌝ }
 {
@@ -189,7 +194,7 @@ pub fn next_within(o: Job) -> Held
 }
 
 // "and, if any matched, search all don't care under Y=1"
-pub fn narrow_if(o: Job, matched: usize) -> Held
+fn narrow_if(o: Job, matched: usize) -> Held
     ensures { λ r. ⌜ r ≡ places.afterTrial greatest o matched ⌝ }
 {
     if matched == 0 {
@@ -199,7 +204,7 @@ pub fn narrow_if(o: Job, matched: usize) -> Held
     }
 }
 
-pub fn after_trial(o: Job, matched: usize) -> Held
+fn after_trial(o: Job, matched: usize) -> Held
     ensures { λ r. ⌜ r ≡ places.afterTrial (kindOf (o .kind)) o matched ⌝ }
 {
     let kind = o.kind;
@@ -212,7 +217,7 @@ pub fn after_trial(o: Job, matched: usize) -> Held
     }
 }
 
-pub fn after_second(o: Job) -> Held
+fn after_second(o: Job) -> Held
     requires { ⌜ (o .i < 64) × (o .j < 64) ⌝ }
     ensures { λ r. ⌜ r ≡ places.afterSecond (kindOf (o .kind)) o ⌝ }
 {
@@ -240,32 +245,44 @@ pub fn next_of(o: Job, matched: usize) -> Held
 
 // ---- number 8 of a held job
 
-// "after the start": used fields as at the start, the others 0, a place of the table.
-pub fn bad_held(width: u32, o: Job) -> bool
-    ensures { λ r. ⌜ r ≡ places.badHeld width o ⌝ }
+// "a job .. place not in the table"
+fn check_place(o: Job) -> Check
+    ensures { λ r. ⌜ r ≡ places.placeCheck o ⌝ }
 {
-    fields::bad_used(width, o) | !fields::unused_zero(o) | !in_table(o)
+    refuse(Refusal::Unfit, !in_table(o))
 }
 
-// "a step while none is"; otherwise the held job.
-pub fn bad_step(width: u32, held: Held) -> bool
-    ensures { λ r. ⌜ r ≡ places.badStep width held ⌝ }
+// "after the start": used fields as at the start, the others 0, a place of the table.
+pub fn check_held(width: u32, o: Job) -> Check
+    ensures { λ r. ⌜ r ≡ places.heldCheck width o ⌝ }
+{
+    in_order(
+        fields::check_used(width, o),
+        in_order(fields::check_unused(o), check_place(o)),
+    )
+}
+
+// "a step while none is"
+pub fn none_held() -> Refusal
+    ensures { λ r. ⌜ r ≡ places.noneHeld ⌝ }
+{
+    Refusal::Unfit
+}
+
+fn check_step_held(width: u32, held: Held) -> Check
+    ensures { λ r. ⌜ r ≡ places.stepHeldCheck width held ⌝ }
 {
     match held {
-        Held::Nothing => true,
-        Held::Holds(o) => bad_held(width, o),
+        Held::Nothing => refuse(none_held(), true),
+        Held::Holds(o) => check_held(width, o),
     }
 }
 
 pub fn check_step(words: &[u64], responses: &[Response], width: u32, held: Held) -> Check
     ensures { λ r. ⌜ r ≡ places.stepCheck (machine width (now (words .entry)) (now (responses .entry))) held ⌝ }
 {
-    let first = machine::check_machine(words, responses, width);
-    if let Check::Refused(why) = first {
-        return Check::Refused(why);
-    }
-    if bad_step(width, held) {
-        return Check::Refused(Refusal::Unfit);
-    }
-    Check::Passed
+    in_order(
+        machine::check_machine(words, responses, width),
+        check_step_held(width, held),
+    )
 }

@@ -5,18 +5,17 @@ use mathlib.Core.Bool.{Bool, true, false, not, _&&_, _||_}
 use native.Mathlib.Omega.{arith}
 use lib.Dec.{ltb, leb, eqb}
 use borrow.Author.Tests.{ltb-true, ltb-false, leb-false, eqb-true, eqb-false, not-false}
-use Rattle.laws.specs.Bits.{bit}
+use Rattle.machine.specs.declared.ResponseBit.{ResponseBit}
+use Rattle.machine.specs.declared.Check.the-variants.{Passed}
 use Rattle.machine.specs.Machine.{responseBits}
+use Rattle.machine.specs.Refusals.{bitCheck, apartCheck, careCheck, inCare}
+use Rattle.machine.proofs.Refusals.{else-passed, not-refused}
 use Rattle.job_plans.specs.declared.Span.{Span}
 use Rattle.job_plans.specs.declared.Job.{Job}
-use Rattle.job_plans.specs.Fields.{Kind, greatest, smallest, scaledAdd, product, unknown, kindOf, badSyllable, overlaps, badWorkingBit, badExtreme, badScaledAdd, badProduct, badUsedFor, badUsed, isZero, unusedZeroFor, unusedZero}
-use Rattle.job_plans.specs.Places.{atPlace, extremePlace, scaledPlace, productPlace, inTableFor, inTable, badHeld}
+use Rattle.job_plans.specs.Fields.{Kind, greatest, smallest, scaledAdd, product, unknown, kindOf, emptyCheck, beyondCheck, overlaps, overlapCheck, extremeCheck, scaledAddCheck, productCheck, usedCheckFor, usedCheck, isZero, unusedZeroFor, unusedZero, unusedCheck}
+use Rattle.job_plans.specs.Places.{atPlace, extremePlace, scaledPlace, productPlace, inTableFor, inTable, placeCheck, heldCheck}
 
 -- ---- tests taken apart
-
-pub or-false : (x y : Bool) → (x || y) ≡ false → (x ≡ false) × (y ≡ false)
-or-false true y h = let z : _≡_ {A = ℕ} 0 1 = cc in absurd (omega arith)
-or-false false y h = (refl, h)
 
 pub and-true : (x y : Bool) → (x && y) ≡ true → (x ≡ true) × (y ≡ true)
 and-true true y h = (refl, h)
@@ -28,60 +27,97 @@ pub record Whole (n : ℕ) (s : Span) : Type 0 where
   pub some : 0 < s .width
   pub fits : s .low .0 + s .width ≤ n
 
-pub whole : (n : ℕ) (s : Span) → badSyllable n s ≡ false → Whole n s
-whole n s h =
-    let g = or-false (eqb (s .width) 0) (ltb n (s .low .0 + s .width)) h in
-    record { some = omega (arith, eqb-false (s .width) 0 (g .0)); fits = ltb-false n (s .low .0 + s .width) (g .1) }
+pub whole : (n : ℕ) (s : Span) → emptyCheck s ≡ Passed → beyondCheck n s ≡ Passed → Whole n s
+whole n s h g = record {
+  some = omega (arith, eqb-false (s .width) 0 (not-refused _ (eqb (s .width) 0) h));
+  fits = ltb-false n (s .low .0 + s .width) (not-refused _ (ltb n (s .low .0 + s .width)) g);
+}
 
-pub bit-below : (care x : ℕ) → badWorkingBit care x ≡ false → x < responseBits
-bit-below care x h = leb-false responseBits x (or-false (leb responseBits x) (eqb (bit care x) 1) h .0)
+pub record Working (care : ℕ) (x : ResponseBit) : Type 0 where
+  pub below : x .0 < responseBits
+  pub free : inCare care x ≡ false
+
+pub working : (care : ℕ) (x : ResponseBit) → bitCheck x ≡ Passed → careCheck care x ≡ Passed → Working care x
+working care x h g = record { below = leb-false responseBits (x .0) (not-refused _ (leb responseBits (x .0)) h); free = not-refused _ (inCare care x) g }
 
 pub record ExtremeFields (n : ℕ) (o : Job) : Type 0 where
-  pub x-bit : badWorkingBit (o .care) (o .x) ≡ false
-  pub y-bit : badWorkingBit (o .care) (o .y) ≡ false
-  pub apart : o .x ≡ o .y → ⊥
+  pub x-bit : Working (o .care) (o .x)
+  pub y-bit : Working (o .care) (o .y)
+  pub apart : o .x .0 ≡ o .y .0 → ⊥
   pub a : Whole n (o .a)
 
-pub extreme-fields : (n : ℕ) (o : Job) → badExtreme n o ≡ false → ExtremeFields n o
-unfolding badExtreme
+pub extreme-fields : (n : ℕ) (o : Job) → extremeCheck n o ≡ Passed → ExtremeFields n o
+unfolding extremeCheck
 extreme-fields n o h =
-    let c = or-false _ (badSyllable n (o .a)) h in
-    let b = or-false _ (eqb (o .x) (o .y)) (c .0) in
-    let a = or-false (badWorkingBit (o .care) (o .x)) (badWorkingBit (o .care) (o .y)) (b .0) in
-    record { x-bit = a .0; y-bit = a .1; apart = eqb-false (o .x) (o .y) (b .1); a = whole n (o .a) (c .1) }
+    let a = else-passed (emptyCheck (o .a)) _ h in
+    let b = else-passed (beyondCheck n (o .a)) _ (a .1) in
+    let x = else-passed (bitCheck (o .x)) _ (b .1) in
+    let y = else-passed (bitCheck (o .y)) _ (x .1) in
+    let d = else-passed (apartCheck (o .x) (o .y)) _ (y .1) in
+    let c = else-passed (careCheck (o .care) (o .x)) (careCheck (o .care) (o .y)) (d .1) in
+    record {
+      x-bit = working (o .care) (o .x) (x .0) (c .0);
+      y-bit = working (o .care) (o .y) (y .0) (c .1);
+      apart = eqb-false (o .x .0) (o .y .0) (not-refused _ (eqb (o .x .0) (o .y .0)) (d .0));
+      a = whole n (o .a) (a .0) (b .0);
+    }
 
 pub record ScaledFields (n : ℕ) (o : Job) : Type 0 where
-  pub y-bit : badWorkingBit (o .care) (o .y) ≡ false
+  pub y-bit : Working (o .care) (o .y)
   pub a : Whole n (o .a)
   pub p : Whole n (o .p)
   pub apart : overlaps (o .p) (o .a) ≡ false
 
-pub scaled-fields : (n : ℕ) (o : Job) → badScaledAdd n o ≡ false → ScaledFields n o
-unfolding badScaledAdd
+pub scaled-fields : (n : ℕ) (o : Job) → scaledAddCheck n o ≡ Passed → ScaledFields n o
+unfolding scaledAddCheck
 scaled-fields n o h =
-    let c = or-false _ (overlaps (o .p) (o .a)) h in
-    let b = or-false _ (badSyllable n (o .p)) (c .0) in
-    let a = or-false (badWorkingBit (o .care) (o .y)) (badSyllable n (o .a)) (b .0) in
-    record { y-bit = a .0; a = whole n (o .a) (a .1); p = whole n (o .p) (b .1); apart = c .1 }
+    let a = else-passed (emptyCheck (o .a)) _ h in
+    let p = else-passed (emptyCheck (o .p)) _ (a .1) in
+    let b = else-passed (beyondCheck n (o .a)) _ (p .1) in
+    let q = else-passed (beyondCheck n (o .p)) _ (b .1) in
+    let d = else-passed (overlapCheck (o .p) (o .a)) _ (q .1) in
+    let y = else-passed (bitCheck (o .y)) (careCheck (o .care) (o .y)) (d .1) in
+    record {
+      y-bit = working (o .care) (o .y) (y .0) (y .1);
+      a = whole n (o .a) (a .0) (b .0);
+      p = whole n (o .p) (p .0) (q .0);
+      apart = not-refused _ (overlaps (o .p) (o .a)) (d .0);
+    }
 
 pub record ProductFields (n : ℕ) (o : Job) : Type 0 where
   pub both : ScaledFields n o
   pub b : Whole n (o .b)
   pub apart : overlaps (o .p) (o .b) ≡ false
 
-pub product-fields : (n : ℕ) (o : Job) → badProduct n o ≡ false → ProductFields n o
-unfolding badProduct
+pub product-fields : (n : ℕ) (o : Job) → productCheck n o ≡ Passed → ProductFields n o
+unfolding productCheck
 product-fields n o h =
-    let c = or-false _ (overlaps (o .p) (o .b)) h in
-    let b = or-false (badScaledAdd n o) (badSyllable n (o .b)) (c .0) in
-    record { both = scaled-fields n o (b .0); b = whole n (o .b) (b .1); apart = c .1 }
+    let a = else-passed (emptyCheck (o .a)) _ h in
+    let b = else-passed (emptyCheck (o .b)) _ (a .1) in
+    let p = else-passed (emptyCheck (o .p)) _ (b .1) in
+    let c = else-passed (beyondCheck n (o .a)) _ (p .1) in
+    let d = else-passed (beyondCheck n (o .b)) _ (c .1) in
+    let q = else-passed (beyondCheck n (o .p)) _ (d .1) in
+    let e = else-passed (overlapCheck (o .p) (o .a)) _ (q .1) in
+    let f = else-passed (overlapCheck (o .p) (o .b)) _ (e .1) in
+    let y = else-passed (bitCheck (o .y)) (careCheck (o .care) (o .y)) (f .1) in
+    record {
+      both = record {
+        y-bit = working (o .care) (o .y) (y .0) (y .1);
+        a = whole n (o .a) (a .0) (c .0);
+        p = whole n (o .p) (p .0) (q .0);
+        apart = not-refused _ (overlaps (o .p) (o .a)) (e .0);
+      };
+      b = whole n (o .b) (b .0) (d .0);
+      apart = not-refused _ (overlaps (o .p) (o .b)) (f .0);
+    }
 
 -- every job that is not turned down at its start has an A
-pub has-a : (n : ℕ) (o : Job) → badUsed n o ≡ false → Whole n (o .a)
-unfolding badUsed
+pub has-a : (n : ℕ) (o : Job) → usedCheck n o ≡ Passed → Whole n (o .a)
+unfolding usedCheck
 has-a n o h = go (kindOf (o .kind)) h
   where
-    go : (k : Kind) → badUsedFor k n o ≡ false → Whole n (o .a)
+    go : (k : Kind) → usedCheckFor k n o ≡ Passed → Whole n (o .a)
     go greatest h = extreme-fields n o h .a
     go smallest h = extreme-fields n o h .a
     go scaledAdd h = scaled-fields n o h .a
@@ -91,24 +127,28 @@ has-a n o h = go (kindOf (o .kind)) h
 -- ---- a held job that is not turned down
 
 pub record Fair (n : ℕ) (o : Job) (k : Kind) : Type 0 where
-  pub used : badUsedFor k n o ≡ false
+  pub used : usedCheckFor k n o ≡ Passed
   pub zero : unusedZeroFor k o ≡ true
   pub place : inTableFor k o ≡ true
 
-pub fair : (n : ℕ) (o : Job) → badHeld n o ≡ false → Fair n o (kindOf (o .kind))
-unfolding badHeld badUsed unusedZero inTable
+pub fair : (n : ℕ) (o : Job) → heldCheck n o ≡ Passed → Fair n o (kindOf (o .kind))
+unfolding heldCheck usedCheck unusedZero inTable
 fair n o h =
-    let b = or-false _ (not (inTableFor (kindOf (o .kind)) o)) h in
-    let a = or-false (badUsedFor (kindOf (o .kind)) n o) (not (unusedZeroFor (kindOf (o .kind)) o)) (b .0) in
-    record { used = a .0; zero = not-false _ (a .1); place = not-false _ (b .1) }
+    let a = else-passed (usedCheckFor (kindOf (o .kind)) n o) _ h in
+    let b = else-passed (unusedCheck o) (placeCheck o) (a .1) in
+    record {
+      used = a .0;
+      zero = not-false _ (not-refused _ (not (unusedZero o)) (b .0));
+      place = not-false _ (not-refused _ (not (inTable o)) (b .1));
+    }
 
 -- at its kind's number
-pub fair-as : (n : ℕ) (o : Job) (k : ℕ) → badHeld n o ≡ false → o .kind ≡ k → Fair n o (kindOf k)
+pub fair-as : (n : ℕ) (o : Job) (k : ℕ) → heldCheck n o ≡ Passed → o .kind ≡ k → Fair n o (kindOf k)
 fair-as n o k h e = subst (λ (x : ℕ). Fair n o (kindOf x)) e (fair n o h)
 
-pub used-fields : (n : ℕ) (o : Job) → badHeld n o ≡ false → badUsed n o ≡ false
-unfolding badHeld
-used-fields n o h = or-false (badUsed n o) _ (or-false _ (not (inTable o)) h .0) .0
+pub used-fields : (n : ℕ) (o : Job) → heldCheck n o ≡ Passed → usedCheck n o ≡ Passed
+unfolding heldCheck
+used-fields n o h = else-passed (usedCheck n o) _ h .0
 
 -- ---- its place
 
@@ -141,8 +181,8 @@ product-place o h =
 -- ---- the bounds
 
 pub record Room (n : ℕ) (o : Job) : Type 0 where
-  pub x : o .x < responseBits
-  pub y : o .y < responseBits
+  pub x : o .x .0 < responseBits
+  pub y : o .y .0 < responseBits
   pub a : o .a .low .0 + o .i < n
   pub b : o .b .low .0 + o .j < n
   pub i : o .i < n
@@ -157,7 +197,7 @@ pub record Sum (n : ℕ) (o : Job) : Type 0 where
 low-zero : (s : Span) → isZero s ≡ true → s .low .0 ≡ 0
 low-zero s h = eqb-true (s .low .0) 0 (and-true (eqb (s .low .0) 0) (eqb (s .width) 0) h .0)
 
-extreme-room : (n : ℕ) (o : Job) → badExtreme n o ≡ false → unusedZeroFor greatest o ≡ true → extremePlace o ≡ true → Room n o
+extreme-room : (n : ℕ) (o : Job) → extremeCheck n o ≡ Passed → unusedZeroFor greatest o ≡ true → extremePlace o ≡ true → Room n o
 extreme-room n o h g l =
     let f = extreme-fields n o h in
     let c = and-true _ (eqb (o .c) 0) g in
@@ -167,13 +207,13 @@ extreme-room n o h g l =
     let zb : o .b .low .0 ≡ 0 = low-zero (o .b) (b .0) in
     let i = extreme-place o l in
     let a = f .a .fits in
-    record { x = bit-below _ _ (f .x-bit); y = bit-below _ _ (f .y-bit); a = omega arith; b = omega arith; i = omega arith; j = omega arith }
+    record { x = f .x-bit .below; y = f .y-bit .below; a = omega arith; b = omega arith; i = omega arith; j = omega arith }
 
-scaled-zero : (o : Job) → unusedZeroFor scaledAdd o ≡ true → (o .x ≡ 0) × ((o .b .low .0 ≡ 0) × (o .j ≡ 0))
+scaled-zero : (o : Job) → unusedZeroFor scaledAdd o ≡ true → (o .x .0 ≡ 0) × ((o .b .low .0 ≡ 0) × (o .j ≡ 0))
 scaled-zero o g =
     let j = and-true _ (eqb (o .j) 0) g in
-    let b = and-true (eqb (o .x) 0) (isZero (o .b)) (j .0) in
-    (eqb-true (o .x) 0 (b .0), (low-zero (o .b) (b .1), eqb-true (o .j) 0 (j .1)))
+    let b = and-true (eqb (o .x .0) 0) (isZero (o .b)) (j .0) in
+    (eqb-true (o .x .0) 0 (b .0), (low-zero (o .b) (b .1), eqb-true (o .j) 0 (j .1)))
 
 pub scaled-sum : (n : ℕ) (o : Job) → Fair n o scaledAdd → Sum n o
 scaled-sum n o f =
@@ -198,17 +238,17 @@ room-for n o scaledAdd f =
     let zj = z .1 .1 in
     let p = scaled-place o (f .place) .0 in
     let a = g .a .fits in
-    record { x = omega arith; y = bit-below _ _ (g .y-bit); a = omega arith; b = omega arith; i = omega arith; j = omega arith }
+    record { x = omega arith; y = g .y-bit .below; a = omega arith; b = omega arith; i = omega arith; j = omega arith }
 room-for n o product f =
     let g = product-fields n o (f .used) in
-    let zx = eqb-true (o .x) 0 (and-true (eqb (o .x) 0) (eqb (o .c) 0) (f .zero) .0) in
+    let zx = eqb-true (o .x .0) 0 (and-true (eqb (o .x .0) 0) (eqb (o .c) 0) (f .zero) .0) in
     let p = product-place o (f .place) in
     let pi = p .i in
     let pj = p .j in
     let a = g .both .a .fits in
     let b = g .b .fits in
-    record { x = omega arith; y = bit-below _ _ (g .both .y-bit); a = omega arith; b = omega arith; i = omega arith; j = omega arith }
+    record { x = omega arith; y = g .both .y-bit .below; a = omega arith; b = omega arith; i = omega arith; j = omega arith }
 room-for n o unknown f = let h = f .used in let z : _≡_ {A = ℕ} 0 1 = cc in absurd (omega arith)
 
-pub room : (n : ℕ) (o : Job) → badHeld n o ≡ false → Room n o
+pub room : (n : ℕ) (o : Job) → heldCheck n o ≡ Passed → Room n o
 room n o h = room-for n o (kindOf (o .kind)) (fair n o h)

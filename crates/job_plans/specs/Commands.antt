@@ -1,14 +1,18 @@
 -- Document 01, 'Jobs': the command at each place. "Registers not mentioned are 0 in its commands."
 use Prim.Native.Nat.{ℕ, zero, suc, _+_, _-_, _*_, _%_, _^_}
 use mathlib.Core.Bool.{Bool, true, false}
+use mathlib.Core.List.{[], _∷_}
 use lib.Dec.{eqb}
 use lib.Bits.{bitOr}
 use Rattle.laws.specs.Bits.{pick}
 use Rattle.machine.specs.declared.Lines.{Lines}
+use Rattle.machine.specs.declared.ResponseBit.{ResponseBit}
+use Rattle.machine.specs.Panel.{panelOf}
 use Rattle.job_plans.specs.declared.Span.{Span}
 use Rattle.job_plans.specs.declared.Job.{Job}
 use Rattle.job_plans.specs.declared.Command.{Command}
 use Rattle.job_plans.specs.Fields.{Kind, greatest, smallest, scaledAdd, product, unknown, kindOf}
+use Rattle.job_plans.specs.Places.{noBit}
 
 abbrev pub searchLine : Lines
 searchLine = record { search = true; read = false; write = false; add = false; multiwrite = false; multiadd = false; complement = false }
@@ -20,17 +24,17 @@ multiaddLine = record { search = false; read = false; write = false; add = false
 abbrev pub order : Lines → ℕ → ℕ → ℕ → ℕ → ℕ → ℕ → ℕ → Command
 order lines comp sdr sc2 mor key care target =
     record {
-      panel = record { comp = comp; sdr = sdr; sc1 = 0; sc2 = sc2; mor = mor; key = key; care = care; target = target; address = record { 0 = 0 } };
+      panel = panelOf (comp ∷ sdr ∷ 0 ∷ sc2 ∷ mor ∷ key ∷ care ∷ target ∷ []);
       lines = lines;
     }
 
 -- search the bits of the mask exact as in comp, under (key, care), target bit t; all other bits are don't care
-abbrev pub look : ℕ → ℕ → ℕ → ℕ → ℕ → Command
-look key care t mask comp = order searchLine comp 0 mask 0 key care (2 ^ t)
+abbrev pub look : ℕ → ℕ → ResponseBit → ℕ → ℕ → Command
+look key care t mask comp = order searchLine comp 0 mask 0 key care (2 ^ t .0)
 
 -- multiadd v into P under response bit y: "Adds set MOR to P's bits and SDR to P's top bit."
-abbrev pub plus : ℕ → Span → ℕ → Command
-plus y s v = order multiaddLine (v * 2 ^ s .low .0) (2 ^ (s .low .0 + s .width - 1)) 0 (2 ^ (s .width + s .low .0) - 2 ^ s .low .0) (2 ^ y) (2 ^ y) 0
+abbrev pub plus : ResponseBit → Span → ℕ → Command
+plus y s v = order multiaddLine (v * 2 ^ s .low .0) (2 ^ (s .low .0 + s .width - 1)) 0 (2 ^ (s .width + s .low .0) - 2 ^ s .low .0) (2 ^ y .0) (2 ^ y .0) 0
 
 -- bit i of a syllable, at its place in the word
 abbrev pub bitOf : Span → ℕ → ℕ
@@ -43,19 +47,19 @@ opening o = look (o .key) (o .care) (o .x) 0 0
 -- "search that bit exact 1 under X=1, target Y"; "the same with exact 0"; "search A's bit i exact 1 under the criterion, target Y";
 -- "search A's bit i and B's bit j exact 1 under the criterion, target Y"
 abbrev pub trial : Kind → Job → Command
-trial greatest o = look (2 ^ o .x) (2 ^ o .x) (o .y) (bitOf (o .a) (o .i)) (bitOf (o .a) (o .i))
-trial smallest o = look (2 ^ o .x) (2 ^ o .x) (o .y) (bitOf (o .a) (o .i)) 0
+trial greatest o = look (2 ^ o .x .0) (2 ^ o .x .0) (o .y) (bitOf (o .a) (o .i)) (bitOf (o .a) (o .i))
+trial smallest o = look (2 ^ o .x .0) (2 ^ o .x .0) (o .y) (bitOf (o .a) (o .i)) 0
 trial scaledAdd o = look (o .key) (o .care) (o .y) (bitOf (o .a) (o .i)) (bitOf (o .a) (o .i))
 trial product o = look (o .key) (o .care) (o .y) (bitOr (bitOf (o .a) (o .i)) (bitOf (o .b) (o .j))) (bitOr (bitOf (o .a) (o .i)) (bitOf (o .b) (o .j)))
-trial unknown o = look 0 0 0 0 0
+trial unknown o = look 0 0 noBit 0 0
 
 -- "search all don't care under Y=1, target X"; "multiadd c·2^i mod 2^p into P under Y=1"; "multiadd 2^(i+j) into P under Y=1"
 abbrev pub second : Kind → Job → Command
-second greatest o = look (2 ^ o .y) (2 ^ o .y) (o .x) 0 0
-second smallest o = look (2 ^ o .y) (2 ^ o .y) (o .x) 0 0
+second greatest o = look (2 ^ o .y .0) (2 ^ o .y .0) (o .x) 0 0
+second smallest o = look (2 ^ o .y .0) (2 ^ o .y .0) (o .x) 0 0
 second scaledAdd o = plus (o .y) (o .p) (o .c * 2 ^ o .i % 2 ^ o .p .width)
 second product o = plus (o .y) (o .p) (2 ^ (o .i + o .j))
-second unknown o = look 0 0 0 0 0
+second unknown o = look 0 0 noBit 0 0
 
 unfoldable pub command : Job → Command
 command o =

@@ -1,15 +1,18 @@
 -- Document 01, number 8: the fields that a job uses, and those that it does not.
 -- "Of a job 8 judges used fields, its place only after the start, and then too that others are 0."
 use Prim.Native.Nat.{ℕ, zero, suc, _+_}
-use mathlib.Core.Bool.{Bool, true, false, not, _&&_, _||_}
-use lib.Dec.{ltb, leb, eqb}
-use Rattle.laws.specs.Bits.{bit, pick}
-use Rattle.machine.specs.Machine.{responseBits}
+use mathlib.Core.Bool.{Bool, true, false, not, _&&_}
+use lib.Dec.{ltb, eqb}
+use Rattle.laws.specs.Bits.{pick}
+use Rattle.machine.specs.declared.Check.{Check}
+use Rattle.machine.specs.declared.Refusal.the-variants.{Unfit}
+use Rattle.machine.specs.declared.ResponseBit.{ResponseBit}
+use Rattle.machine.specs.Refusals.{_else_, refuse, bitCheck, apartCheck, careCheck}
 use Rattle.job_plans.specs.declared.Span.{Span}
 use Rattle.job_plans.specs.declared.Job.{Job}
 
 -- a job's fields, in the image's order
-abbrev pub job : ℕ → ℕ → ℕ → ℕ → ℕ → Span → Span → Span → ℕ → ℕ → ℕ → ℕ → Job
+abbrev pub job : ℕ → ℕ → ℕ → ResponseBit → ResponseBit → Span → Span → Span → ℕ → ℕ → ℕ → ℕ → Job
 job kind key care x y a b p phase i j c =
     record { kind = kind; key = key; care = care; x = x; y = y; a = a; b = b; p = p; phase = phase; i = i; j = j; c = c }
 
@@ -26,40 +29,67 @@ kindOf k = pick (eqb k 1) greatest (pick (eqb k 2) smallest (pick (eqb k 3) scal
 
 -- ---- used fields
 
--- "a syllable of width 0 or beyond N"
-abbrev pub badSyllable : ℕ → Span → Bool
-badSyllable n s = eqb (s .width) 0 || ltb n (s .low .0 + s .width)
+-- "a syllable of width 0"
+abbrev pub emptyCheck : Span → Check
+emptyCheck s = refuse Unfit (eqb (s .width) 0)
+
+-- "or beyond N"
+abbrev pub beyondCheck : ℕ → Span → Check
+beyondCheck n s = refuse Unfit (ltb n (s .low .0 + s .width))
 
 -- "P overlapping A or B"
 abbrev pub overlaps : Span → Span → Bool
 overlaps s t = ltb (s .low .0) (t .low .0 + t .width) && ltb (t .low .0) (s .low .0 + s .width)
 
--- "a response bit above 7", "a working bit in care"
-abbrev pub badWorkingBit : ℕ → ℕ → Bool
-badWorkingBit care x = leb responseBits x || eqb (bit care x) 1
+abbrev pub overlapCheck : Span → Span → Check
+overlapCheck p s = refuse Unfit (overlaps p s)
 
--- "X equal to Y"
-unfoldable pub badExtreme : ℕ → Job → Bool
-badExtreme n o = badWorkingBit (o .care) (o .x) || badWorkingBit (o .care) (o .y) || eqb (o .x) (o .y) || badSyllable n (o .a)
+-- What is asked of every syllable is asked of A, then B, then P, before the next thing is asked (house); working bits last.
+unfoldable pub extremeCheck : ℕ → Job → Check
+extremeCheck n o =
+    emptyCheck (o .a)
+    else beyondCheck n (o .a)
+    else bitCheck (o .x)
+    else bitCheck (o .y)
+    else apartCheck (o .x) (o .y)
+    else careCheck (o .care) (o .x)
+    else careCheck (o .care) (o .y)
 
-unfoldable pub badScaledAdd : ℕ → Job → Bool
-badScaledAdd n o = badWorkingBit (o .care) (o .y) || badSyllable n (o .a) || badSyllable n (o .p) || overlaps (o .p) (o .a)
+unfoldable pub scaledAddCheck : ℕ → Job → Check
+scaledAddCheck n o =
+    emptyCheck (o .a)
+    else emptyCheck (o .p)
+    else beyondCheck n (o .a)
+    else beyondCheck n (o .p)
+    else overlapCheck (o .p) (o .a)
+    else bitCheck (o .y)
+    else careCheck (o .care) (o .y)
 
-unfoldable pub badProduct : ℕ → Job → Bool
-badProduct n o = badScaledAdd n o || badSyllable n (o .b) || overlaps (o .p) (o .b)
+unfoldable pub productCheck : ℕ → Job → Check
+productCheck n o =
+    emptyCheck (o .a)
+    else emptyCheck (o .b)
+    else emptyCheck (o .p)
+    else beyondCheck n (o .a)
+    else beyondCheck n (o .b)
+    else beyondCheck n (o .p)
+    else overlapCheck (o .p) (o .a)
+    else overlapCheck (o .p) (o .b)
+    else bitCheck (o .y)
+    else careCheck (o .care) (o .y)
 
 -- "a job kind .. not in the table"
-abbrev pub badUsedFor : Kind → ℕ → Job → Bool
-badUsedFor greatest n o = badExtreme n o
-badUsedFor smallest n o = badExtreme n o
-badUsedFor scaledAdd n o = badScaledAdd n o
-badUsedFor product n o = badProduct n o
-badUsedFor unknown n o = true
+abbrev pub usedCheckFor : Kind → ℕ → Job → Check
+usedCheckFor greatest n o = extremeCheck n o
+usedCheckFor smallest n o = extremeCheck n o
+usedCheckFor scaledAdd n o = scaledAddCheck n o
+usedCheckFor product n o = productCheck n o
+usedCheckFor unknown n o = refuse Unfit true
 
-unfoldable pub badUsed : ℕ → Job → Bool
-badUsed n o = badUsedFor (kindOf (o .kind)) n o
+unfoldable pub usedCheck : ℕ → Job → Check
+usedCheck n o = usedCheckFor (kindOf (o .kind)) n o
 
--- ---- the others: "after the start, an unused field not 0"
+-- ---- the others
 
 abbrev pub isZero : Span → Bool
 isZero s = eqb (s .low .0) 0 && eqb (s .width) 0
@@ -68,9 +98,13 @@ isZero s = eqb (s .low .0) 0 && eqb (s .width) 0
 abbrev pub unusedZeroFor : Kind → Job → Bool
 unusedZeroFor greatest o = isZero (o .b) && isZero (o .p) && eqb (o .j) 0 && eqb (o .c) 0
 unusedZeroFor smallest o = isZero (o .b) && isZero (o .p) && eqb (o .j) 0 && eqb (o .c) 0
-unusedZeroFor scaledAdd o = eqb (o .x) 0 && isZero (o .b) && eqb (o .j) 0
-unusedZeroFor product o = eqb (o .x) 0 && eqb (o .c) 0
+unusedZeroFor scaledAdd o = eqb (o .x .0) 0 && isZero (o .b) && eqb (o .j) 0
+unusedZeroFor product o = eqb (o .x .0) 0 && eqb (o .c) 0
 unusedZeroFor unknown o = false
 
 unfoldable pub unusedZero : Job → Bool
 unusedZero o = unusedZeroFor (kindOf (o .kind)) o
+
+-- "after the start, an unused field not 0"
+abbrev pub unusedCheck : Job → Check
+unusedCheck o = refuse Unfit (not (unusedZero o))

@@ -5,14 +5,16 @@ use mathlib.Core.Bool.{Bool, true, false, not, _&&_, _||_}
 use lib.Dec.{ltb, eqb}
 use Rattle.laws.specs.Bits.{pick}
 use Rattle.machine.specs.declared.Check.{Check}
+use Rattle.machine.specs.declared.Refusal.{Refusal}
 use Rattle.machine.specs.declared.Refusal.the-variants.{Unfit}
+use Rattle.machine.specs.declared.ResponseBit.{ResponseBit}
 use Rattle.machine.specs.Machine.{Machine}
 use Rattle.machine.specs.Refusals.{_else_, refuse, machineCheck}
 use Rattle.job_plans.specs.declared.Span.{Span}
 use Rattle.job_plans.specs.declared.Job.{Job}
 use Rattle.job_plans.specs.declared.Held.{Held}
 use Rattle.job_plans.specs.declared.Held.the-variants.{Nothing, Holds}
-use Rattle.job_plans.specs.Fields.{job, Kind, greatest, smallest, scaledAdd, product, unknown, kindOf, badUsed, unusedZero}
+use Rattle.job_plans.specs.Fields.{job, Kind, greatest, smallest, scaledAdd, product, unknown, kindOf, usedCheck, unusedCheck}
 
 -- ---- "A place outside the job's table is malformed."
 
@@ -41,29 +43,41 @@ inTableFor unknown o = false
 unfoldable pub inTable : Job → Bool
 inTable o = inTableFor (kindOf (o .kind)) o
 
+-- "a job .. place not in the table"
+abbrev pub placeCheck : Job → Check
+placeCheck o = refuse Unfit (not (inTable o))
+
+-- ---- number 8 of a held job
+
 -- after the start: used fields as at the start, the others 0, a place of the table
-unfoldable pub badHeld : ℕ → Job → Bool
-badHeld n o = badUsed n o || not (unusedZero o) || not (inTable o)
+unfoldable pub heldCheck : ℕ → Job → Check
+heldCheck n o = usedCheck n o else unusedCheck o else placeCheck o
 
 -- "a step while none is"
-abbrev pub badStep : ℕ → Held → Bool
-badStep n Nothing = true
-badStep n (Holds o) = badHeld n o
+abbrev pub noneHeld : Refusal
+noneHeld = Unfit
+
+abbrev pub stepHeldCheck : ℕ → Held → Check
+stepHeldCheck n Nothing = refuse noneHeld true
+stepHeldCheck n (Holds o) = heldCheck n o
 
 unfoldable pub stepCheck : Machine → Held → Check
-stepCheck m h = machineCheck m else refuse Unfit (badStep (m .width) h)
+stepCheck m h = machineCheck m else stepHeldCheck (m .width) h
 
 -- ---- "Starting a job sets its first place, and its unused fields to 0."
 
 abbrev pub none : Span
 none = record { low = record { 0 = 0 }; width = 0 }
 
+abbrev pub noBit : ResponseBit
+noBit = record { 0 = 0 }
+
 -- "In phase 0, i is a-1 .. the others begin at phase 1 with i and j 0."
 abbrev pub firstFor : Kind → Job → Job
 firstFor greatest o = job (o .kind) (o .key) (o .care) (o .x) (o .y) (o .a) none none 0 (o .a .width - 1) 0 0
 firstFor smallest o = job (o .kind) (o .key) (o .care) (o .x) (o .y) (o .a) none none 0 (o .a .width - 1) 0 0
-firstFor scaledAdd o = job (o .kind) (o .key) (o .care) 0 (o .y) (o .a) none (o .p) 1 0 0 (o .c)
-firstFor product o = job (o .kind) (o .key) (o .care) 0 (o .y) (o .a) (o .b) (o .p) 1 0 0 0
+firstFor scaledAdd o = job (o .kind) (o .key) (o .care) noBit (o .y) (o .a) none (o .p) 1 0 0 (o .c)
+firstFor product o = job (o .kind) (o .key) (o .care) noBit (o .y) (o .a) (o .b) (o .p) 1 0 0 0
 firstFor unknown o = o
 
 unfoldable pub first : Job → Job

@@ -1,105 +1,162 @@
 // Document 01, number 8: the fields that a job uses, and those that it does not.
 use crate::Job;
 use crate::Span;
-use machine::RESPONSE_BITS;
-use machine::Response;
+use machine::Check;
+use machine::Refusal;
+use machine::check_apart;
+use machine::check_bit;
+use machine::check_care;
+use machine::in_order;
+use machine::refuse;
 ghost use mathlib.Core.Path.{_≡_};
-ghost use Rattle.job_plans.specs.Fields.{kindOf, badSyllable, overlaps, badWorkingBit, badExtreme, badScaledAdd, badProduct, badUsed, isZero, unusedZeroFor, unusedZero, greatest, scaledAdd, product};
+ghost use Rattle.job_plans.specs.Fields.{emptyCheck, beyondCheck, overlaps, overlapCheck, extremeCheck, scaledAddCheck, productCheck, usedCheck, isZero, unusedZeroFor, unusedZero, unusedCheck, greatest, scaledAdd, product};
 
 // ---- used fields
 
-// "a syllable of width 0 or beyond N"
-pub fn bad_syllable(n: u32, s: Span) -> bool
-    ensures { λ r. ⌜ r ≡ badSyllable n s ⌝ }
+// "a syllable of width 0"
+fn check_empty(s: Span) -> Check
+    ensures { λ r. ⌜ r ≡ emptyCheck s ⌝ }
 {
-    (s.width == 0) | (n < s.low.0 as u32 + s.width as u32)
+    refuse(Refusal::Unfit, s.width == 0)
+}
+
+// "or beyond N"
+fn check_beyond(n: u32, s: Span) -> Check
+    ensures { λ r. ⌜ r ≡ beyondCheck n s ⌝ }
+{
+    refuse(Refusal::Unfit, n < s.low.0 as u32 + s.width as u32)
 }
 
 // "P overlapping A or B"
-pub fn overlap(s: Span, t: Span) -> bool
+fn overlap(s: Span, t: Span) -> bool
     ensures { λ r. ⌜ r ≡ overlaps s t ⌝ }
 {
     ((s.low.0 as u32) < t.low.0 as u32 + t.width as u32)
         & ((t.low.0 as u32) < s.low.0 as u32 + s.width as u32)
 }
 
-// "a response bit above 7", "a working bit in care"
-pub fn bad_working_bit(care: Response, x: u8) -> bool
-    ensures { λ r. ⌜ r ≡ badWorkingBit care x ⌝ }
+fn check_overlap(p: Span, s: Span) -> Check
+    ensures { λ r. ⌜ r ≡ overlapCheck p s ⌝ }
 {
-    if (x as u32) < RESPONSE_BITS {
-        (care >> x) % 2 == 1
-    } else {
-        true
-    }
+    refuse(Refusal::Unfit, overlap(p, s))
 }
 
-// "X equal to Y"
-pub fn bad_extreme(n: u32, o: Job) -> bool
-    ensures { λ r. ⌜ r ≡ badExtreme n o ⌝ }
+fn check_extreme(n: u32, o: Job) -> Check
+    ensures { λ r. ⌜ r ≡ extremeCheck n o ⌝ }
 {
-    bad_working_bit(o.care, o.x)
-        | bad_working_bit(o.care, o.y)
-        | (o.x == o.y)
-        | bad_syllable(n, o.a)
+    in_order(
+        check_empty(o.a),
+        in_order(
+            check_beyond(n, o.a),
+            in_order(
+                check_bit(o.x),
+                in_order(
+                    check_bit(o.y),
+                    in_order(
+                        check_apart(o.x, o.y),
+                        in_order(check_care(o.care, o.x), check_care(o.care, o.y)),
+                    ),
+                ),
+            ),
+        ),
+    )
 }
 
-pub fn bad_scaled_add(n: u32, o: Job) -> bool
-    ensures { λ r. ⌜ r ≡ badScaledAdd n o ⌝ }
+fn check_scaled_add(n: u32, o: Job) -> Check
+    ensures { λ r. ⌜ r ≡ scaledAddCheck n o ⌝ }
 {
-    bad_working_bit(o.care, o.y) | bad_syllable(n, o.a) | bad_syllable(n, o.p) | overlap(o.p, o.a)
+    in_order(
+        check_empty(o.a),
+        in_order(
+            check_empty(o.p),
+            in_order(
+                check_beyond(n, o.a),
+                in_order(
+                    check_beyond(n, o.p),
+                    in_order(
+                        check_overlap(o.p, o.a),
+                        in_order(check_bit(o.y), check_care(o.care, o.y)),
+                    ),
+                ),
+            ),
+        ),
+    )
 }
 
-pub fn bad_product(n: u32, o: Job) -> bool
-    ensures { λ r. ⌜ r ≡ badProduct n o ⌝ }
+fn check_product(n: u32, o: Job) -> Check
+    ensures { λ r. ⌜ r ≡ productCheck n o ⌝ }
 {
-    bad_scaled_add(n, o) | bad_syllable(n, o.b) | overlap(o.p, o.b)
+    in_order(
+        check_empty(o.a),
+        in_order(
+            check_empty(o.b),
+            in_order(
+                check_empty(o.p),
+                in_order(
+                    check_beyond(n, o.a),
+                    in_order(
+                        check_beyond(n, o.b),
+                        in_order(
+                            check_beyond(n, o.p),
+                            in_order(
+                                check_overlap(o.p, o.a),
+                                in_order(
+                                    check_overlap(o.p, o.b),
+                                    in_order(check_bit(o.y), check_care(o.care, o.y)),
+                                ),
+                            ),
+                        ),
+                    ),
+                ),
+            ),
+        ),
+    )
 }
 
 // "a job kind .. not in the table"
-pub fn bad_used(n: u32, o: Job) -> bool
-    ensures { λ r. ⌜ r ≡ badUsed n o ⌝ }
+pub fn check_used(n: u32, o: Job) -> Check
+    ensures { λ r. ⌜ r ≡ usedCheck n o ⌝ }
 {
     let kind = o.kind;
     match kind {
-        1 => bad_extreme(n, o),
-        2 => bad_extreme(n, o),
-        3 => bad_scaled_add(n, o),
-        4 => bad_product(n, o),
-        _ => true,
+        1 => check_extreme(n, o),
+        2 => check_extreme(n, o),
+        3 => check_scaled_add(n, o),
+        4 => check_product(n, o),
+        _ => refuse(Refusal::Unfit, true),
     }
 }
 
-// ---- the others: "after the start, an unused field not 0"
+// ---- the others
 
-pub fn is_zero(s: Span) -> bool
+fn is_zero(s: Span) -> bool
     ensures { λ r. ⌜ r ≡ isZero s ⌝ }
 {
     (s.low.0 == 0) & (s.width == 0)
 }
 
 // Extremes use no B, P, j and c.
-pub fn extreme_zero(o: Job) -> bool
+fn extreme_zero(o: Job) -> bool
     ensures { λ r. ⌜ r ≡ unusedZeroFor greatest o ⌝ }
 {
     is_zero(o.b) & is_zero(o.p) & (o.j == 0) & (o.c == 0)
 }
 
 // A scaled add uses no X, B and j.
-pub fn scaled_add_zero(o: Job) -> bool
+fn scaled_add_zero(o: Job) -> bool
     ensures { λ r. ⌜ r ≡ unusedZeroFor scaledAdd o ⌝ }
 {
-    (o.x == 0) & is_zero(o.b) & (o.j == 0)
+    (o.x.0 == 0) & is_zero(o.b) & (o.j == 0)
 }
 
 // A product uses no X and c.
-pub fn product_zero(o: Job) -> bool
+fn product_zero(o: Job) -> bool
     ensures { λ r. ⌜ r ≡ unusedZeroFor product o ⌝ }
 {
-    (o.x == 0) & (o.c == 0)
+    (o.x.0 == 0) & (o.c == 0)
 }
 
-pub fn unused_zero(o: Job) -> bool
+fn unused_zero(o: Job) -> bool
     ensures { λ r. ⌜ r ≡ unusedZero o ⌝ }
 {
     let kind = o.kind;
@@ -110,4 +167,11 @@ pub fn unused_zero(o: Job) -> bool
         4 => product_zero(o),
         _ => false,
     }
+}
+
+// "after the start, an unused field not 0"
+pub fn check_unused(o: Job) -> Check
+    ensures { λ r. ⌜ r ≡ unusedCheck o ⌝ }
+{
+    refuse(Refusal::Unfit, !unused_zero(o))
 }

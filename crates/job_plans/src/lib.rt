@@ -1,4 +1,4 @@
-// What a job is: its types, the definitions of its fields, places and commands, and the tests of its fields.
+// What a job is: its types, the definitions of its fields, places and commands, and the checks of its fields.
 // Document 01: 'Jobs', 'The image' (phase, i and j) and number 8.
 pub mod fields;
 
@@ -6,8 +6,7 @@ use machine::BitSlice;
 use machine::Lines;
 use machine::Panel;
 use machine::Response;
-ghost use mathlib.Core.Path.{_≡_};
-ghost use Prim.Native.Nat.{_-_, _^_, _≤_, _<_};
+use machine::ResponseBit;
 
 // "A syllable here is a lowest bit and a width."
 pub struct Span {
@@ -21,8 +20,8 @@ pub struct Job {
     pub kind: u8,
     pub key: Response,
     pub care: Response,
-    pub x: u8,
-    pub y: u8,
+    pub x: ResponseBit,
+    pub y: ResponseBit,
     pub a: Span,
     pub b: Span,
     pub p: Span,
@@ -42,12 +41,4 @@ pub enum Held {
 pub struct Command {
     pub panel: Panel,
     pub lines: Lines,
-}
-
-// The k lowest bits.
-pub fn low_bits(k: u8) -> u64
-    requires { ⌜ (0 < k) × (k ≤ 64) ⌝ }
-    ensures { λ r. ⌜ r ≡ 2 ^ k - 1 ⌝ }
-{
-    u64::MAX >> (64 - k)
 }

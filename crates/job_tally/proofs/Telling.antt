@@ -4,17 +4,15 @@ use mathlib.Core.Path.{_≡_, ap, subst}
 use native.Mathlib.Omega.{arith}
 use lib.ListN.{length}
 use Rattle.machine.specs.declared.Refusal.{Refusal}
-use Rattle.machine.specs.declared.Refusal.the-variants.{Unfit}
 use Rattle.machine.specs.declared.Check.the-variants.{Passed, Refused}
 use Rattle.machine.specs.Machine.{Machine}
-use Rattle.machine.specs.Refusals.{refuse}
 use Rattle.machine.proofs.Refusals.{else-passed, sound, size-same}
 use Rattle.job_plans.specs.declared.Job.{Job}
 use Rattle.job_plans.specs.declared.Held.{Held}
 use Rattle.job_plans.specs.declared.Held.the-variants.{Nothing, Holds}
 use Rattle.job_tally.specs.declared.Total.the-variants as total
 use Rattle.job_plans.specs.Places.{stepCheck}
-use Rattle.job_tally.specs.Totals.{pulses, badTotal, totalCheck, totalOf}
+use Rattle.job_tally.specs.Totals.{pulses, firstCheck, totalCheck, totalOf}
 use Rattle.job_plans.proofs.Fair.{has-a, used-fields}
 use Rattle.job_plans.proofs.Standing.{good, narrow, fair-held, step-none}
 
@@ -26,7 +24,7 @@ module _ (m : Machine) (h : Held) where
   -- as a step that is not turned down
   as-step : totalCheck m h ≡ Passed → stepCheck m h ≡ Passed
   unfolding totalCheck
-  as-step e = else-passed (stepCheck m h) (refuse Unfit (badTotal h)) e .0
+  as-step e = else-passed (stepCheck m h) (firstCheck h) e .0
 
   pub total-none : totalCheck m h ≡ Passed → h ≡ Nothing → ⊥
   total-none e d = step-none m h (as-step e) d

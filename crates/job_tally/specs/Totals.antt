@@ -62,12 +62,15 @@ pulses m o = pulsesFor (kindOf (o .kind)) m o
 
 -- ---- the call: refused as a step is, and with 8 if the place is not the first
 
-abbrev pub badTotal : Held → Bool
-badTotal Nothing = true
-badTotal (Holds o) = not (atFirst o)
+abbrev pub isFirst : Held → Bool
+isFirst Nothing = false
+isFirst (Holds o) = atFirst o
+
+abbrev pub firstCheck : Held → Check
+firstCheck h = refuse Unfit (not (isFirst h))
 
 unfoldable pub totalCheck : Machine → Held → Check
-totalCheck m h = stepCheck m h else refuse Unfit (badTotal h)
+totalCheck m h = stepCheck m h else firstCheck h
 
 abbrev pub heldPulses : Machine → Held → ℕ
 heldPulses m Nothing = 0

@@ -5,10 +5,13 @@ use job_places::is_at_first;
 use job_plans::Held;
 use job_plans::Job;
 use job_plans::Span;
-use job_plans::low_bits;
 use machine::Check;
 use machine::Refusal;
 use machine::Response;
+use machine::in_order;
+use machine::is_selected;
+use machine::low_bits;
+use machine::refuse;
 ghost use mathlib.Core.Path.{_≡_};
 ghost use mathlib.Core.Bool.{Bool, true, false};
 ghost use Prim.Native.Nat.{ℕ, _+_, _-_, _*_, _^_, _≤_, _<_, min, max};
@@ -16,46 +19,39 @@ ghost use lib.Dec.{ltb};
 ghost use lib.ListN.{length};
 ghost use Rattle.laws.specs.Bits.{pick, digit};
 ghost use Rattle.machine.specs.Machine.{machine, selected};
-ghost use Rattle.job_tally.specs.Totals.{sumBelow, ones, zeros, valueOf, values, greatestOf, smallestOf, pulses, badTotal, totalCheck, totalOf};
+ghost use Rattle.job_tally.specs.Totals.{sumBelow, ones, zeros, valueOf, values, greatestOf, smallestOf, pulses, isFirst, firstCheck, totalCheck, totalOf};
 
 // ---- extremes: "the number of ones in the greatest syllable (of zeros in the smallest)"
 
-// "selected if its response bits equal the key at every bit that care has"
-pub(crate) fn is_selected(key: Response, care: Response, r: Response) -> bool
-    ensures { λ s. ⌜ s ≡ selected key care r ⌝ }
-{
-    (r & care) == (key & care)
-}
-
 // A syllable of a word, as a number.
-pub(crate) fn value_of(s: Span, w: u64) -> u64
+fn value_of(s: Span, w: u64) -> u64
     requires { ⌜ (0 < s .width) × (s .low .0 + s .width ≤ 64) ⌝ }
     ensures { λ r. ⌜ r ≡ valueOf s w ⌝ }
 {
     let low = s.low.0;
-    (w >> low) & low_bits(s.width)
+    (w >> low) & low_bits(s.width as u32)
 }
 
-pub(crate) fn larger(x: u64, y: u64) -> u64
+fn larger(x: u64, y: u64) -> u64
     ensures { λ r. ⌜ r ≡ max x y ⌝ }
 {
     if x < y { y } else { x }
 }
 
-pub(crate) fn smaller(x: u64, y: u64) -> u64
+fn smaller(x: u64, y: u64) -> u64
     ensures { λ r. ⌜ r ≡ min x y ⌝ }
 {
     if y < x { y } else { x }
 }
 
-pub(crate) fn further(small: bool, x: u64, y: u64) -> u64
+fn further(small: bool, x: u64, y: u64) -> u64
     ensures { λ r. ⌜ r ≡ pick small (min x y) (max x y) ⌝ }
 {
     if small { smaller(x, y) } else { larger(x, y) }
 }
 
 // The extreme so far, with one word more.
-pub(crate) fn with_word(o: Job, small: bool, best: u64, w: u64, r: Response) -> u64
+fn with_word(o: Job, small: bool, best: u64, w: u64, r: Response) -> u64
     requires { ⌜ (0 < o .a .width) × (o .a .low .0 + o .a .width ≤ 64) ⌝ }
     ensures { λ x. ⌜ x ≡ pick (selected (o .key) (o .care) r) (pick small (min best (valueOf (o .a) w)) (max best (valueOf (o .a) w))) best ⌝ }
 {
@@ -67,13 +63,7 @@ pub(crate) fn with_word(o: Job, small: bool, best: u64, w: u64, r: Response) -> 
 }
 
 // The smallest or the greatest of A's values in the words that the criterion selects; where there is none, all ones or 0.
-pub(crate) fn extreme_of(
-    words: &[u64],
-    responses: &[Response],
-    o: Job,
-    small: bool,
-    none: u64,
-) -> u64
+fn extreme_of(words: &[u64], responses: &[Response], o: Job, small: bool, none: u64) -> u64
     requires { ⌜ (0 < o .a .width) × (o .a .low .0 + o .a .width ≤ 64) ⌝ }
     requires { ⌜ length (now responses) ≡ length (now words) ⌝ }
     requires { ⌜ none ≡ pick small (2 ^ o .a .width - 1) 0 ⌝ }
@@ -88,7 +78,7 @@ pub(crate) fn extreme_of(
     best
 }
 
-pub(crate) fn greatest_pulses(words: &[u64], responses: &[Response], o: Job) -> u64
+fn greatest_pulses(words: &[u64], responses: &[Response], o: Job) -> u64
     requires { ⌜ (0 < o .a .width) × (o .a .low .0 + o .a .width ≤ 64) ⌝ }
     requires { ⌜ length (now responses) ≡ length (now words) ⌝ }
     ensures { λ r. ⌜ r ≡ 1 + o .a .width + ones (o .a .width) (greatestOf (values o (now (words .entry)) (now (responses .entry)))) ⌝ }
@@ -97,12 +87,12 @@ pub(crate) fn greatest_pulses(words: &[u64], responses: &[Response], o: Job) -> 
     1 + o.a.width as u64 + u64::count_ones(greatest) as u64
 }
 
-pub(crate) fn smallest_pulses(words: &[u64], responses: &[Response], o: Job) -> u64
+fn smallest_pulses(words: &[u64], responses: &[Response], o: Job) -> u64
     requires { ⌜ (0 < o .a .width) × (o .a .low .0 + o .a .width ≤ 64) ⌝ }
     requires { ⌜ length (now responses) ≡ length (now words) ⌝ }
     ensures { λ r. ⌜ r ≡ 1 + o .a .width + zeros (o .a .width) (smallestOf (2 ^ o .a .width - 1) (values o (now (words .entry)) (now (responses .entry)))) ⌝ }
 {
-    let all = low_bits(o.a.width);
+    let all = low_bits(o.a.width as u32);
     let smallest = extreme_of(words, responses, o, true, all);
     1 + o.a.width as u64 + u64::count_ones(all - smallest) as u64
 }
@@ -110,7 +100,7 @@ pub(crate) fn smallest_pulses(words: &[u64], responses: &[Response], o: Job) -> 
 // ---- product: "twice the number of pairs with i+j below p"
 
 // How many j below b have i+j below p.
-pub(crate) fn pairs_at(i: u8, b: u8, p: u8) -> u64
+fn pairs_at(i: u8, b: u8, p: u8) -> u64
     ensures { λ r. ⌜ (r ≡ sumBelow b (λ (j : ℕ). digit (ltb (i + j) p))) × (r < 256) ⌝ }
 {
     if i < p {
@@ -120,7 +110,7 @@ pub(crate) fn pairs_at(i: u8, b: u8, p: u8) -> u64
     }
 }
 
-pub(crate) fn pairs_of(a: u8, b: u8, p: u8) -> u64
+fn pairs_of(a: u8, b: u8, p: u8) -> u64
     ensures { λ r. ⌜ (r ≡ sumBelow a (λ (i : ℕ). sumBelow b (λ (j : ℕ). digit (ltb (i + j) p)))) × (r ≤ 65536) ⌝ }
 {
     let mut pairs: u64 = 0;
@@ -134,7 +124,7 @@ pub(crate) fn pairs_of(a: u8, b: u8, p: u8) -> u64
 
 // ---- every kind, whatever the machine's width
 
-pub(crate) fn pulses_of(words: &[u64], responses: &[Response], o: Job) -> u64
+fn pulses_of(words: &[u64], responses: &[Response], o: Job) -> u64
     requires { ⌜ (0 < o .a .width) × (o .a .low .0 + o .a .width ≤ 64) ⌝ }
     requires { ⌜ length (now responses) ≡ length (now words) ⌝ }
     ensures { λ r. ⌜ ((n : ℕ) → r ≡ pulses (machine n (now (words .entry)) (now (responses .entry))) o) ⌝ }
@@ -151,26 +141,25 @@ pub(crate) fn pulses_of(words: &[u64], responses: &[Response], o: Job) -> u64
 
 // ---- the call
 
-pub(crate) fn bad_total(held: Held) -> bool
-    ensures { λ r. ⌜ r ≡ badTotal held ⌝ }
+fn is_first(held: Held) -> bool
+    ensures { λ r. ⌜ r ≡ isFirst held ⌝ }
 {
     match held {
-        Held::Nothing => true,
-        Held::Holds(o) => !is_at_first(o),
+        Held::Nothing => false,
+        Held::Holds(o) => is_at_first(o),
     }
 }
 
-pub(crate) fn check_total(words: &[u64], responses: &[Response], width: u32, held: Held) -> Check
+fn check_first(held: Held) -> Check
+    ensures { λ r. ⌜ r ≡ firstCheck held ⌝ }
+{
+    refuse(Refusal::Unfit, !is_first(held))
+}
+
+fn check_total(words: &[u64], responses: &[Response], width: u32, held: Held) -> Check
     ensures { λ r. ⌜ r ≡ totalCheck (machine width (now (words .entry)) (now (responses .entry))) held ⌝ }
 {
-    let first = check_step(words, responses, width, held);
-    if let Check::Refused(why) = first {
-        return Check::Refused(why);
-    }
-    if bad_total(held) {
-        return Check::Refused(Refusal::Unfit);
-    }
-    Check::Passed
+    in_order(check_step(words, responses, width, held), check_first(held))
 }
 
 // Refused as a step is, and with 8 where the job does not stand at its first place.
@@ -181,7 +170,7 @@ pub fn total(words: &[u64], responses: &[Response], width: u32, held: Held) -> T
         return Total::Refused(why);
     }
     match held {
-        Held::Nothing => Total::Refused(Refusal::Unfit),
+        Held::Nothing => Total::Pulses(0),
         Held::Holds(o) => Total::Pulses(pulses_of(words, responses, o)),
     }
 }

@@ -4,16 +4,15 @@ use Prim.Native.String.{String}
 use mathlib.Core.Bool.{Bool, true, false}
 use mathlib.Core.List.{List, [], _∷_, _++_}
 use native.Mathlib.Omega.{arith}
-use lib.Dec.{ltb}
+use lib.Dec.{ltb, eqb}
 use lib.ListN.{length, length-append}
 use Rattle.laws.specs.Bits.{pick}
 use Rattle.machine.specs.declared.Refusal.{Refusal}
-use Rattle.machine.specs.declared.Refusal.the-variants as refusal
-use Rattle.machine.specs.Refusals.{numberOf}
+use Rattle.machine.specs.Refusals.{numberOf, alsoAnswers}
 use Rattle.text.specs.Ascii.{ascii}
 use Rattle.output.specs.Digits.{hexDigits, decimalDigits}
 use Rattle.output.specs.Digits.{pair}
-use Rattle.listing.specs.Lists.{named, named16, named2, alsoText, refusalText}
+use Rattle.listing.specs.Lists.{named, named16, namedResponse, alsoText, refusalText}
 use Rattle.output.proofs.Putting.{length-hex}
 
 -- ---- texts of at most so many bytes
@@ -56,23 +55,15 @@ number name x = both (text name) (decimal 20 x)
 pub word : (name : String) (x : ℕ) → Within (named16 name x) (length (ascii name) + 16)
 word name x = both (text name) (hex x)
 
-pub byte : (name : String) (x : ℕ) → Within (named2 name x) (length (ascii name) + 2)
+pub byte : (name : String) (x : ℕ) → Within (namedResponse name x) (length (ascii name) + 2)
 byte name x = both (text name) (two x)
 
 -- ---- a refusal
 
 pub also : (why : Refusal) → Within (alsoText why) 26
-also refusal.Size = none
-also refusal.Width = none
-also (refusal.WordTooWide w) = number " word " (w .0)
-also refusal.PanelTooWide = none
-also refusal.TwoCodes = none
-also refusal.WrongLines = none
-also refusal.NoSuchWord = none
-also refusal.Unfit = none
-also (refusal.Malformed place) = within 26 (omega arith) (number " at " place)
-also refusal.NoRoom = none
-also refusal.NotShown = none
+also why =
+    either (eqb (numberOf why) 3) (number " word " (alsoAnswers why))
+    (either {b = []} (eqb (numberOf why) 9) (within 26 (omega arith) (number " at " (alsoAnswers why))) none)
 
 pub refused : (why : Refusal) → Within (refusalText why) 54
 refused why = let x = both (number "refused " (numberOf why)) (also why) in x

@@ -3,12 +3,11 @@ use Prim.Native.Nat.{ℕ, zero, suc}
 use Prim.Native.String.{String}
 use mathlib.Core.Bool.{_&&_}
 use mathlib.Core.List.{List, [], _++_}
-use lib.Dec.{ltb}
+use lib.Dec.{ltb, eqb}
 use lib.ListN.{length, getD, replicate}
 use Rattle.laws.specs.Bits.{pick}
 use Rattle.machine.specs.declared.Refusal.{Refusal}
-use Rattle.machine.specs.declared.Refusal.the-variants as refusal
-use Rattle.machine.specs.Refusals.{numberOf}
+use Rattle.machine.specs.Refusals.{numberOf, alsoAnswers}
 use Rattle.image.specs.declared.Read.{Read}
 use Rattle.image.specs.declared.Read.the-variants as read
 use Rattle.image.specs.Calls.{readOf, wordsRead, responsesRead}
@@ -25,23 +24,19 @@ named name x = ascii name ++ decimalDigits 20 x
 abbrev pub named16 : String → ℕ → List ℕ
 named16 name x = ascii name ++ hexDigits 16 x
 
-abbrev pub named2 : String → ℕ → List ℕ
-named2 name x = ascii name ++ pair x
+-- a response or an 8-bit register: "2 for a response or an 8-bit register"
+abbrev pub responseText : ℕ → List ℕ
+responseText x = pair x
+
+abbrev pub namedResponse : String → ℕ → List ℕ
+namedResponse name x = ascii name ++ responseText x
 
 -- ---- refusals: "`refused K`, for number 3 `refused 3 word I`, for number 9 `refused 9 at I`"
 
 abbrev pub alsoText : Refusal → List ℕ
-alsoText refusal.Size = []
-alsoText refusal.Width = []
-alsoText (refusal.WordTooWide word) = named " word " (word .0)
-alsoText refusal.PanelTooWide = []
-alsoText refusal.TwoCodes = []
-alsoText refusal.WrongLines = []
-alsoText refusal.NoSuchWord = []
-alsoText refusal.Unfit = []
-alsoText (refusal.Malformed place) = named " at " place
-alsoText refusal.NoRoom = []
-alsoText refusal.NotShown = []
+alsoText why =
+    pick (eqb (numberOf why) 3) (named " word " (alsoAnswers why))
+    (pick (eqb (numberOf why) 9) (named " at " (alsoAnswers why)) [])
 
 abbrev pub refusalText : Refusal → List ℕ
 refusalText why = named "refused " (numberOf why) ++ alsoText why
@@ -50,7 +45,7 @@ refusalText why = named "refused " (numberOf why) ++ alsoText why
 
 -- document 01, figure 13: the word's number, content and response
 abbrev pub wordText : ℕ → ℕ → ℕ → List ℕ
-wordText i word response = named "\n" i ++ ascii " " ++ hexDigits 16 word ++ ascii " " ++ pair response
+wordText i word response = named "\n" i ++ ascii " " ++ hexDigits 16 word ++ ascii " " ++ responseText response
 
 abbrev pub entryText : ℕ → List ℕ → List ℕ → List ℕ
 entryText i words responses =

@@ -2,6 +2,7 @@
 use image::Read;
 use machine::Refusal;
 use machine::Response;
+ghost use mathlib.Core.List.{_++_};
 ghost use Rattle.output.specs.Puts.{Puts};
 ghost use Rattle.listing.specs.Lists as lists;
 
@@ -11,15 +12,26 @@ ghost use Rattle.listing.specs.Lists as lists;
 pub fn put_refusal(out: &mut [u8], why: Refusal) -> usize
     ensures { λ r. ⌜ Puts (lists.refusalText why) 0 (now (out .entry)) (now (out .exit)) r ⌝ }
 {
-    let n = output::put_named(out, 0, b"refused ", machine::number_of(why));
-    match why {
-        Refusal::WordTooWide(word) => output::put_named(out, n, b" word ", word.0 as u64),
-        Refusal::Malformed(at) => output::put_named(out, n, b" at ", at as u64),
-        _ => n,
+    let number = machine::number_of(why);
+    let also = machine::also_of(why);
+    let n = output::put_named(out, 0, b"refused ", number);
+    if number == 3 {
+        return output::put_named(out, n, b" word ", also);
     }
+    if number == 9 {
+        return output::put_named(out, n, b" at ", also);
+    }
+    n
 }
 
 // ---- the list
+
+// A name and a response, or an 8-bit register: the place that knows how many digits it has.
+pub fn put_response(out: &mut [u8], at: usize, name: &[u8], response: Response) -> usize
+    ensures { λ r. ⌜ Puts (now (name .entry) ++ lists.responseText response) at (now (out .entry)) (now (out .exit)) r ⌝ }
+{
+    output::put_named2(out, at, name, response)
+}
 
 // "contents hex, 16 and 2 capital digits, other numbers decimal"
 fn put_line(out: &mut [u8], at: usize, i: usize, word: u64, response: Response) -> usize
@@ -27,7 +39,7 @@ fn put_line(out: &mut [u8], at: usize, i: usize, word: u64, response: Response) 
 {
     let number = output::put_named(out, at, b"\n", i as u64);
     let content = output::put_named16(out, number, b" ", word);
-    output::put_named2(out, content, b" ", response)
+    put_response(out, content, b" ", response)
 }
 
 fn put_entry(out: &mut [u8], at: usize, i: usize, words: &[u64], responses: &[Response]) -> usize

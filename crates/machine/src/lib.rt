@@ -2,13 +2,13 @@
 // Document 01: 'The machine', 'One pulse', 'Numbers given when a call is turned down'.
 ghost use mathlib.Core.Path.{_≡_};
 ghost use mathlib.Core.List.{[]};
-ghost use Prim.Native.Nat.{_-_, _^_, _≤_, _<_};
+ghost use Prim.Native.Nat.{_-_, _%_, _^_, _≤_, _<_};
 ghost use Rattle.laws.specs.Bits.{digit};
 ghost use Rattle.machine.specs.Panel.{registers, panelOf, load};
-ghost use Rattle.machine.specs.Machine.{machine, selected};
+ghost use Rattle.machine.specs.Machine.{machine, responseBits, selected};
 ghost use Rattle.machine.specs.Resolution.{lowest};
 ghost use Rattle.machine.specs.Words.{union};
-ghost use Rattle.machine.specs.Refusals.{badSize, badWidth, tooWide, badPanel, badLines, badAddress, inCare, _else_, refuse, refuseWord, machineCheck, commandCheck, bitCheck, apartCheck, careCheck, numberOf};
+ghost use Rattle.machine.specs.Refusals.{badSize, badWidth, tooWide, badPanel, badLines, badAddress, inCare, _else_, refuse, refuseWord, machineCheck, commandCheck, bitCheck, apartCheck, careCheck, numberOf, alsoAnswers};
 
 // A word's response bits, and how many they are: named once.
 pub type Response = u8;
@@ -185,6 +185,25 @@ pub fn number_of(why: Refusal) -> u64
     }
 }
 
+// What it also answers, 0 for nothing.
+pub fn also_of(why: Refusal) -> u64
+    ensures { λ r. ⌜ r ≡ alsoAnswers why ⌝ }
+{
+    match why {
+        Refusal::Size => 0,
+        Refusal::Width => 0,
+        Refusal::WordTooWide(word) => word.0 as u64,
+        Refusal::PanelTooWide => 0,
+        Refusal::TwoCodes => 0,
+        Refusal::WrongLines => 0,
+        Refusal::NoSuchWord => 0,
+        Refusal::Unfit => 0,
+        Refusal::Malformed(place) => place as u64,
+        Refusal::NoRoom => 0,
+        Refusal::NotShown => 0,
+    }
+}
+
 // What checking a call finds.
 pub enum Check {
     Passed,
@@ -212,6 +231,13 @@ pub fn is_selected(key: Response, care: Response, response: Response) -> bool
     ensures { λ s. ⌜ s ≡ selected key care response ⌝ }
 {
     (response & care) == (key & care)
+}
+
+// A number's low bits as a response.
+pub fn response_of(x: u64) -> Response
+    ensures { λ r. ⌜ r ≡ x % 2 ^ responseBits ⌝ }
+{
+    (x % (1u64 << RESPONSE_BITS)) as Response
 }
 
 // ---- a chain of checks: "Checked in number order"
@@ -341,7 +367,7 @@ fn digit_of(raised: bool) -> u32
     if raised { 1 } else { 0 }
 }
 
-pub fn bad_lines(lines: Lines) -> bool
+fn bad_lines(lines: Lines) -> bool
     ensures { λ r. ⌜ r ≡ badLines lines ⌝ }
 {
     let raised = digit_of(lines.search)
@@ -354,7 +380,7 @@ pub fn bad_lines(lines: Lines) -> bool
     (raised == 0) | (2 < raised) | (lines.complement & !(raised == 1))
 }
 
-pub fn bad_address(words: usize, panel: Panel, lines: Lines) -> bool
+fn bad_address(words: usize, panel: Panel, lines: Lines) -> bool
     ensures { λ r. ⌜ r ≡ badAddress words panel lines ⌝ }
 {
     (lines.read | lines.write | lines.add) & (words <= panel.address.0)

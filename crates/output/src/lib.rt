@@ -32,7 +32,7 @@ pub fn put(out: &mut [u8], at: usize, s: &[u8]) -> usize
 }
 
 // "Other numbers are printed in decimal": at most 20 digits, as many as a number below 2^64 can have.
-pub fn put_decimal(out: &mut [u8], at: usize, x: u64) -> usize
+fn put_decimal(out: &mut [u8], at: usize, x: u64) -> usize
     ensures { λ r. ⌜ Puts (decimalDigits 20 x) at (now (out .entry)) (now (out .exit)) r ⌝ }
 {
     let mut digits = [0u8; 20];
@@ -49,7 +49,7 @@ fn hex_digit(x: u64) -> u8
 }
 
 // "2 for a response or an 8-bit register": of a larger number, those of its low 8 bits.
-pub fn put_hex2(out: &mut [u8], at: usize, x: u64) -> usize
+fn put_hex2(out: &mut [u8], at: usize, x: u64) -> usize
     ensures { λ r. ⌜ Puts (pair x) at (now (out .entry)) (now (out .exit)) r ⌝ }
 {
     let n = put_byte(out, at, hex_digit(x / 16));
@@ -57,7 +57,7 @@ pub fn put_hex2(out: &mut [u8], at: usize, x: u64) -> usize
 }
 
 // "16 of them for a word or an N-bit register": two at a time, the highest first.
-pub fn put_hex16(out: &mut [u8], at: usize, x: u64) -> usize
+fn put_hex16(out: &mut [u8], at: usize, x: u64) -> usize
     ensures { λ r. ⌜ (at + 16 ≤ length (now (out .entry)) → (r ≡ at + 16) × (now (out .exit) ≡ sets (now (out .entry)) at (hexDigits 16 x))) ⌝ }
 {
     let mut n = at;

@@ -11,7 +11,7 @@ ghost use Rattle.laws.specs.Bits.{pick};
 ghost use Rattle.text.specs.Numbers.{digitOf, numberOf, decimalOf, hexOf, atMost, pairs, bytesOf};
 
 // What a byte stands for as a digit of either case; 16 for a byte that is none.
-pub fn digit(byte: u8) -> u64
+pub(crate) fn digit(byte: u8) -> u64
     ensures { λ r. ⌜ (r ≡ digitOf byte) × (r ≤ 16) ⌝ }
 {
     if byte < 48 {
@@ -66,7 +66,7 @@ pub fn decimal(s: &[u8]) -> Number
 }
 
 // "so 17 digits are a bad line even with leading zeros"
-pub fn hex(s: &[u8]) -> Number
+pub(crate) fn hex(s: &[u8]) -> Number
     ensures { λ r. ⌜ r ≡ hexOf (now (s .entry)) ⌝ }
 {
     if 16 < s.len() {
@@ -76,7 +76,7 @@ pub fn hex(s: &[u8]) -> Number
 }
 
 // A number outside its range is a bad one.
-pub fn at_most(x: Number, most: u64) -> Number
+pub(crate) fn at_most(x: Number, most: u64) -> Number
     ensures { λ r. ⌜ r ≡ atMost most x ⌝ }
 {
     match x {

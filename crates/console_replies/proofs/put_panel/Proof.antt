@@ -1,4 +1,4 @@
-use Rattle.listing.specs.Lists.{named2}
+use Rattle.listing.specs.Lists.{namedResponse}
 use Rattle.console_replies.specs.Texts.{registersText}
 use Rattle.output.proofs.Putting.{puts₄}
 use borrow.Author.Needs.{needs}
@@ -6,7 +6,7 @@ use Rattle.console_replies.proofs.put_panel.Statement.{statement}
 use Rattle.console_replies.proofs.put_panel.Tie as tie
 
 returns : tie.Need-returns
-returns c = let s = c .before .before .before .before .before .before .before .before .before .before .before .before .before .before .before .before .before .before .before .before .args in let p = s .panel in puts₄ (registersText p) (named2 " key " (p .key)) (named2 " care " (p .care)) (named2 " target " (p .target)) (s .at) (s .out .now) (c .before .before .before .before .before .before .before .before .before .before .before .before .before .before .before .before .before .put-registers .ensures) (c .before .before .before .before .before .before .before .before .before .before .before .before .put-named2 .ensures) (c .before .before .before .before .before .before .before .put-named22 .ensures) (c .before .before .put-named23 .ensures)
+returns c = let s = c .before .before .before .before .before .before .before .before .before .before .before .before .before .before .before .before .before .before .before .before .args in let p = s .panel in puts₄ (registersText p) (namedResponse " key " (p .key)) (namedResponse " care " (p .care)) (namedResponse " target " (p .target)) (s .at) (s .out .now) (c .before .before .before .before .before .before .before .before .before .before .before .before .before .before .before .before .before .put-registers .ensures) (c .before .before .before .before .before .before .before .before .before .before .before .before .put-response .ensures) (c .before .before .before .before .before .before .before .put-response2 .ensures) (c .before .before .put-response3 .ensures)
 
 pub put-panel-spec : {M : Type 1} → statement M
 put-panel-spec =

@@ -12,7 +12,7 @@ add-sum : tie.Need-add-sum
 add-sum c = search needs
 
 cast-p : tie.Need-cast-p
-cast-p c = search needs
+cast-p c = search (needs, c .struct-known3 .given .1 .1 .1 .1 .1 .1 .1 .0 .1 .0)
 
 at-place-requires : tie.Need-at-place-requires
 at-place-requires c κs = search needs

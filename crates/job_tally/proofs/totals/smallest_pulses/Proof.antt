@@ -8,6 +8,9 @@ use borrow.Author.Needs.{needs}
 use Rattle.job_tally.proofs.totals.smallest_pulses.Statement.{statement}
 use Rattle.job_tally.proofs.totals.smallest_pulses.Tie as tie
 
+cast-low-bits : tie.Need-cast-low-bits
+cast-low-bits c = search needs
+
 low-bits-requires : tie.Need-low-bits-requires
 low-bits-requires c κs = search needs
 
@@ -33,7 +36,7 @@ add-result-2 c =
 
 returns : tie.Need-returns
 returns c =
-    let w = c .before .before .before .before .before .args .o .a .width in
+    let w = c .before .before .before .before .before .before .args .o .a .width in
     let e = c .before .extreme-of in
     let l = c .before .before .low-bits in
     ap (λ (x : ℕ). 1 + w + x)
@@ -43,6 +46,7 @@ pub smallest-pulses-spec : {M : Type 1} → statement M
 smallest-pulses-spec =
     tie.close
     (tie.spec
+    cast-low-bits
     low-bits-requires
     extreme-of-requires
     cast-result

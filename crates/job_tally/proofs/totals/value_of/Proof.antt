@@ -11,12 +11,15 @@ cast-result c = search needs
 shr-result : tie.Need-shr-result
 shr-result c = search needs
 
+cast-low-bits : tie.Need-cast-low-bits
+cast-low-bits c = search needs
+
 low-bits-requires : tie.Need-low-bits-requires
 low-bits-requires c κs = search needs
 
 returns : tie.Need-returns
 returns c =
-    let a = c .before .args in rw (c .low-bits .ensures) (and-mask _ (a .s .width) ∙ extremes.value-is (a .s) (a .w))
+    let a = c .before .before .args in rw (c .low-bits .ensures) (and-mask _ (a .s .width) ∙ extremes.value-is (a .s) (a .w))
 
 pub value-of-spec : {M : Type 1} → statement M
-value-of-spec = tie.close (tie.spec cast-result shr-result low-bits-requires returns)
+value-of-spec = tie.close (tie.spec cast-result shr-result cast-low-bits low-bits-requires returns)

@@ -1,9 +1,8 @@
 use mathlib.Core.Path.{sym, ap, _∙_}
-use mathlib.Core.Bool.{not}
-use Rattle.job_tally.specs.Totals.{badTotal}
+use Rattle.job_tally.specs.Totals.{isFirst}
 use borrow.Author.Needs.{needs}
-use Rattle.job_tally.proofs.totals.bad_total.Statement.{statement}
-use Rattle.job_tally.proofs.totals.bad_total.Tie as tie
+use Rattle.job_tally.proofs.totals.is_first.Statement.{statement}
+use Rattle.job_tally.proofs.totals.is_first.Tie as tie
 
 enum-told : tie.Need-enum-told
 enum-told c = search needs
@@ -18,8 +17,8 @@ returns : tie.Need-returns
 returns c = search needs
 
 returns-2 : tie.Need-returns-2
-returns-2 c = ap not (c .is-at-first .ensures) ∙ ap badTotal (sym (c .before .before .held .given .1))
+returns-2 c = c .is-at-first .ensures ∙ ap isFirst (sym (c .before .before .held .given .1))
 
-pub bad-total-spec : {M : Type 1} → statement M
-bad-total-spec =
+pub is-first-spec : {M : Type 1} → statement M
+is-first-spec =
     tie.close (tie.spec enum-told enum-known-held is-at-first-requires returns returns-2)
