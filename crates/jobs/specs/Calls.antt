@@ -1,6 +1,5 @@
 -- Document 01, 'Jobs': what start and step answer, and the machine after a step.
 -- "job start, job step and show for 1 to 3 and 8"
-use Prim.Native.Nat.{ℕ}
 use mathlib.Core.Bool.{Bool, true, false}
 use Rattle.machine.specs.declared.Check.{Check}
 use Rattle.machine.specs.declared.Refusal.the-variants.{Unfit}
@@ -10,7 +9,6 @@ use Rattle.machine.specs.Refusals.{_else_, refuse, machineCheck, answerBy}
 use Rattle.job_plans.specs.declared.Job.{Job}
 use Rattle.job_plans.specs.declared.Held.{Held}
 use Rattle.job_plans.specs.declared.Held.the-variants.{Nothing, Holds}
-use Rattle.job_plans.specs.declared.Command.{Command}
 use Rattle.jobs.specs.declared.Started.{Started}
 use Rattle.jobs.specs.declared.Started.the-variants as started
 use Rattle.jobs.specs.declared.Stepped.{Stepped}
