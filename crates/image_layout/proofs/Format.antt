@@ -188,8 +188,5 @@ few-jobs (Holds o) = omega arith
 
 -- ---- how long a section is
 
-pub length-section : (k : ℕ) (xs : List ℕ) → length (section (bytes k) xs) ≡ countSize + k * length xs
-length-section k xs = omega (arith, length-append (bytes countSize (length xs)) (items (bytes k) xs), length-bytes countSize (length xs), length-items k xs)
-
 pub length-job-section : (os : List Job) → length (section jobBytes os) ≡ countSize + recordSize * length os
 length-job-section os = omega (arith, length-append (bytes countSize (length os)) (items jobBytes os), length-bytes countSize (length os), length-jobs os)
