@@ -11,6 +11,7 @@ use Rattle.laws.proofs.Bits.{shifted, number-is}
 use Rattle.machine.specs.Machine.{over, tops, selected}
 use Rattle.machine.specs.Pulse.{addend, sums, added, change, wordAfter, responseAfter}
 use Rattle.machine.proofs.Masks.{addend-is}
+use Rattle.machine.specs.declared.ResponseBit.{ResponseBit}
 use Rattle.job_plans.specs.declared.Span.{Span}
 use Rattle.job_plans.specs.Commands.{plus}
 use Rattle.ends.proofs.Shapes.{from, above, rest, rest-none}
@@ -20,7 +21,7 @@ use Rattle.ends.proofs.Parts.{addedTo, Gains, gains-add}
 over-is : (x lo k : ℕ) (f : ℕ → ℕ) → ((i : ℕ) → bit x i ≡ f i) → over (from lo k) f ≡ x / 2 ^ lo % 2 ^ k
 over-is x lo k f h = number-is k (x / 2 ^ lo) _ (λ j g. sym (shifted x lo j) ∙ h (lo + j))
 
-module _ (n y : ℕ) (s : Span) (v x : ℕ) (some : 0 < s .width) (fits : s .low .0 + s .width ≤ n) (small : v < 2 ^ s .width) (w-lt : x < 2 ^ n) where
+module _ (n : ℕ) (y : ResponseBit) (s : Span) (v x : ℕ) (some : 0 < s .width) (fits : s .low .0 + s .width ≤ n) (small : v < 2 ^ s .width) (w-lt : x < 2 ^ n) where
   abbrev lo : ℕ
   lo = s .low .0
 
@@ -81,26 +82,26 @@ module _ (n y : ℕ) (s : Span) (v x : ℕ) (some : 0 < s .width) (fits : s .low
 
 -- ---- the command's pulse on one word and its response
 
-pub plus-word : (n y : ℕ) (s : Span) (v k w r : ℕ)
-    → wordAfter n (plus y s v .panel) (plus y s v .lines) k w r ≡ pick (selected (2 ^ y) (2 ^ y) r) (added n (plus y s v .panel) w) w
+pub plus-word : (n : ℕ) (y : ResponseBit) (s : Span) (v k w r : ℕ)
+    → wordAfter n (plus y s v .panel) (plus y s v .lines) k w r ≡ pick (selected (2 ^ y .0) (2 ^ y .0) r) (added n (plus y s v .panel) w) w
 unfolding wordAfter
-plus-word n y s v k w r = go (selected (2 ^ y) (2 ^ y) r) _ _
+plus-word n y s v k w r = go (selected (2 ^ y .0) (2 ^ y .0) r) _ _
   where
     go : (b : Bool) (x z : ℕ) → change n false b w x z ≡ pick b z w
     go true x z = refl
     go false x z = refl
 
-pub plus-response : (n y : ℕ) (s : Span) (v k w r : ℕ) → responseAfter n (plus y s v .panel) (plus y s v .lines) k w r ≡ r
+pub plus-response : (n : ℕ) (y : ResponseBit) (s : Span) (v k w r : ℕ) → responseAfter n (plus y s v .panel) (plus y s v .lines) k w r ≡ r
 unfolding responseAfter
 plus-response n y s v k w r = refl
 
 -- where Y is set P gains v
-pub plus-gains : (n y : ℕ) (s : Span) (v w : ℕ) → 0 < s .width → s .low .0 + s .width ≤ n → v < 2 ^ s .width → w < 2 ^ n
+pub plus-gains : (n : ℕ) (y : ResponseBit) (s : Span) (v w : ℕ) → 0 < s .width → s .low .0 + s .width ≤ n → v < 2 ^ s .width → w < 2 ^ n
     → Gains s v w (added n (plus y s v .panel) w)
 plus-gains n y s v w some fits small h = rw (plus-added n y s v w some fits small h) (gains-add s v w)
 
 -- and the word still fits the machine
-pub plus-fits : (n y : ℕ) (s : Span) (v w : ℕ) → 0 < s .width → s .low .0 + s .width ≤ n → v < 2 ^ s .width → w < 2 ^ n
+pub plus-fits : (n : ℕ) (y : ResponseBit) (s : Span) (v w : ℕ) → 0 < s .width → s .low .0 + s .width ≤ n → v < 2 ^ s .width → w < 2 ^ n
     → added n (plus y s v .panel) w < 2 ^ n
 plus-fits n y s v w some fits small h =
     let hi : ℕ = s .low .0 + s .width in

@@ -7,7 +7,7 @@ use Rattle.machine.specs.Pulse.{pulsed}
 use Rattle.job_plans.specs.declared.Job.{Job}
 use Rattle.job_plans.specs.declared.Held.{Held}
 use Rattle.job_plans.specs.declared.Held.the-variants.{Nothing}
-use Rattle.job_plans.specs.Fields.{Kind, greatest, smallest, scaledAdd, product, unknown, kindOf, badUsed}
+use Rattle.job_plans.specs.Fields.{Kind, greatest, smallest, scaledAdd, product, unknown, kindOf, usedCheck}
 use Rattle.job_plans.specs.Places.{first}
 use Rattle.job_plans.specs.Commands.{command}
 use Rattle.job_tally.specs.Totals.{pulses}
@@ -22,7 +22,7 @@ use Rattle.ends.proofs.Product.{product-course}
 
 module _ (m : Machine) (o : Job) (accepted : Accepted m o) where
   pub course : Course m o
-  unfolding badUsed
+  unfolding usedCheck
   course = go (kindOf (o .kind)) refl
     where
       go : (k : Kind) → kindOf (o .kind) ≡ k → Course m o

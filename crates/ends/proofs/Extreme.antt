@@ -8,11 +8,12 @@ use borrow.Author.Tests.{ne-eqb}
 use Rattle.laws.specs.Bits.{bit}
 use Rattle.laws.proofs.Digits.{Bit, off, on as lit}
 use Rattle.laws.proofs.Bits.{digit-at}
+use Rattle.machine.specs.declared.Check.the-variants.{Passed}
 use Rattle.machine.specs.Machine.{Machine}
 use Rattle.machine.proofs.Refusals.{Sound}
 use Rattle.job_plans.specs.declared.Job.{Job}
 use Rattle.job_plans.specs.declared.Held.the-variants.{Nothing, Holds}
-use Rattle.job_plans.specs.Places.{badHeld, moved, nextBelow}
+use Rattle.job_plans.specs.Places.{heldCheck, moved, nextBelow}
 use Rattle.job_tally.specs.Totals.{sumBelow, ones}
 use Rattle.ends.specs.Ends.{SameSize}
 use Rattle.ends.proofs.Steps.{on, pulsedBy, countedBy, Run, stay, step-then}
@@ -41,7 +42,7 @@ module _ (m : Machine) (s : Sound m) (b : Job) (f : ExtremeFields (m .width) b) 
   goes zero h e n = record { end = e; run = stay; narrow = n }
   goes (suc i) h e n = go (bit g i) (digit-at g i) refl (λ d. goes i (omega arith) d)
     where
-      fits : (d : Machine) → SameSize m d → (p : ℕ) → (eqb p 1 || eqb p 2) ≡ true → badHeld (d .width) (moved b p i 0) ≡ false
+      fits : (d : Machine) → SameSize m d → (p : ℕ) → (eqb p 1 || eqb p 2) ≡ true → heldCheck (d .width) (moved b p i 0) ≡ Passed
       fits d z p q = rw (z .width) (plan .fits p i q h)
 
       go : (t : ℕ) → Bit t → bit g i ≡ t → ((d : Machine) → Narrowed i d → Done i d) → Done (suc i) e

@@ -1,44 +1,36 @@
 -- What an accepted start shows of a job's used fields.
-use Prim.Native.Nat.{ℕ, _+_, _≤_, _<_}
+use Prim.Native.Nat.{ℕ, _+_, _<_}
 use mathlib.Core.Path.{_≡_, refl}
-use mathlib.Core.Bool.{Bool, true, false, _&&_, _||_}
+use mathlib.Core.Bool.{Bool, true, false, _&&_}
 use mathlib.Core.Logic.{inl, inr}
 use native.Mathlib.Omega.{arith}
-use lib.Dec.{leb, ltb, eqb}
-use borrow.Author.Tests.{ltb-false, leb-false, eqb-false}
+use lib.Dec.{ltb}
+use borrow.Author.Tests.{ltb-false, eqb-false}
 use Rattle.laws.specs.Bits.{bit}
+use Rattle.machine.specs.declared.ResponseBit.{ResponseBit}
+use Rattle.machine.specs.declared.Check.the-variants.{Passed}
 use Rattle.machine.specs.Machine.{responseBits}
-use Rattle.machine.proofs.Refusals.{or-left, or-right}
 use Rattle.job_plans.specs.declared.Span.{Span}
 use Rattle.job_plans.specs.declared.Job.{Job}
-use Rattle.job_plans.specs.Fields.{badSyllable, overlaps, badWorkingBit, badExtreme, badScaledAdd, badProduct}
+use Rattle.job_plans.specs.Fields.{overlaps, extremeCheck, scaledAddCheck, productCheck}
+use Rattle.job_plans.proofs.Fair as fair
 use Rattle.ends.specs.Ends.{Outside}
 
 -- a syllable of the word
-pub record Inside (n : ℕ) (s : Span) : Type 0 where
-  pub some : 0 < s .width
-  pub fits : s .low .0 + s .width ≤ n
+abbrev pub Inside : ℕ → Span → Type 0
+Inside n s = fair.Whole n s
 
 -- a response bit that care does not have
-pub record Working (care x : ℕ) : Type 0 where
-  pub bit-lt : x < responseBits
-  pub free : bit care x ≡ 0
+pub record Working (care : ℕ) (x : ResponseBit) : Type 0 where
+  pub bit-lt : x .0 < responseBits
+  pub free : bit care (x .0) ≡ 0
 
 -- no bit of A is a bit of P
 abbrev pub Apart : Span → Span → Type 0
 Apart p a = (i : ℕ) → i < a .width → Outside p (a .low .0 + i)
 
-inside : (n : ℕ) (s : Span) → badSyllable n s ≡ false → Inside n s
-inside n s h = record {
-  some = omega (arith, eqb-false (s .width) 0 (or-left _ (ltb n (s .low .0 + s .width)) h));
-  fits = ltb-false n (s .low .0 + s .width) (or-right (eqb (s .width) 0) _ h);
-}
-
-working : (care x : ℕ) → badWorkingBit care x ≡ false → Working care x
-working care x h = record {
-  bit-lt = leb-false responseBits x (or-left _ (eqb (bit care x) 1) h);
-  free = omega (arith, eqb-false (bit care x) 1 (or-right (leb responseBits x) _ h));
-}
+working : (care : ℕ) (x : ResponseBit) → fair.Working care x → Working care x
+working care x w = record { bit-lt = w .below; free = omega (arith, eqb-false (bit care (x .0)) 1 (w .free)) }
 
 apart : (p a : Span) → overlaps p a ≡ false → Apart p a
 apart p a h i g = go (ltb (p .low .0) (a .low .0 + a .width)) refl h
@@ -50,20 +42,13 @@ apart p a h i g = go (ltb (p .low .0) (a .low .0 + a .width)) refl h
 pub record ExtremeFields (n : ℕ) (o : Job) : Type 0 where
   pub x-works : Working (o .care) (o .x)
   pub y-works : Working (o .care) (o .y)
-  pub differ : o .x ≡ o .y → ⊥
+  pub differ : o .x .0 ≡ o .y .0 → ⊥
   pub a : Inside n (o .a)
 
-pub extreme-fields : (n : ℕ) (o : Job) → badExtreme n o ≡ false → ExtremeFields n o
-unfolding badExtreme
+pub extreme-fields : (n : ℕ) (o : Job) → extremeCheck n o ≡ Passed → ExtremeFields n o
 extreme-fields n o h =
-    let c = or-left _ (badSyllable n (o .a)) h in
-    let b = or-left _ (eqb (o .x) (o .y)) c in
-    record {
-      x-works = working (o .care) (o .x) (or-left _ (badWorkingBit (o .care) (o .y)) b);
-      y-works = working (o .care) (o .y) (or-right (badWorkingBit (o .care) (o .x)) _ b);
-      differ = eqb-false (o .x) (o .y) (or-right (badWorkingBit (o .care) (o .x) || badWorkingBit (o .care) (o .y)) _ c);
-      a = inside n (o .a) (or-right (badWorkingBit (o .care) (o .x) || badWorkingBit (o .care) (o .y) || eqb (o .x) (o .y)) _ h);
-    }
+    let f = fair.extreme-fields n o h in
+    record { x-works = working (o .care) (o .x) (f .x-bit); y-works = working (o .care) (o .y) (f .y-bit); differ = f .apart; a = f .a }
 
 pub record AddFields (n : ℕ) (o : Job) : Type 0 where
   pub y-works : Working (o .care) (o .y)
@@ -71,29 +56,18 @@ pub record AddFields (n : ℕ) (o : Job) : Type 0 where
   pub p : Inside n (o .p)
   pub a-apart : Apart (o .p) (o .a)
 
-pub add-fields : (n : ℕ) (o : Job) → badScaledAdd n o ≡ false → AddFields n o
-unfolding badScaledAdd
-add-fields n o h =
-    let c = or-left _ (overlaps (o .p) (o .a)) h in
-    let b = or-left _ (badSyllable n (o .p)) c in
-    record {
-      y-works = working (o .care) (o .y) (or-left _ (badSyllable n (o .a)) b);
-      a = inside n (o .a) (or-right (badWorkingBit (o .care) (o .y)) _ b);
-      p = inside n (o .p) (or-right (badWorkingBit (o .care) (o .y) || badSyllable n (o .a)) _ c);
-      a-apart = apart (o .p) (o .a) (or-right (badWorkingBit (o .care) (o .y) || badSyllable n (o .a) || badSyllable n (o .p)) _ h);
-    }
+adding : (n : ℕ) (o : Job) → fair.ScaledFields n o → AddFields n o
+adding n o f = record { y-works = working (o .care) (o .y) (f .y-bit); a = f .a; p = f .p; a-apart = apart (o .p) (o .a) (f .apart) }
+
+pub add-fields : (n : ℕ) (o : Job) → scaledAddCheck n o ≡ Passed → AddFields n o
+add-fields n o h = adding n o (fair.scaled-fields n o h)
 
 pub record ProductFields (n : ℕ) (o : Job) : Type 0 where
   pub both : AddFields n o
   pub b : Inside n (o .b)
   pub b-apart : Apart (o .p) (o .b)
 
-pub product-fields : (n : ℕ) (o : Job) → badProduct n o ≡ false → ProductFields n o
-unfolding badProduct
+pub product-fields : (n : ℕ) (o : Job) → productCheck n o ≡ Passed → ProductFields n o
 product-fields n o h =
-    let c = or-left _ (overlaps (o .p) (o .b)) h in
-    record {
-      both = add-fields n o (or-left _ (badSyllable n (o .b)) c);
-      b = inside n (o .b) (or-right (badScaledAdd n o) _ c);
-      b-apart = apart (o .p) (o .b) (or-right (badScaledAdd n o || badSyllable n (o .b)) _ h);
-    }
+    let f = fair.product-fields n o h in
+    record { both = adding n o (f .both); b = f .b; b-apart = apart (o .p) (o .b) (f .apart) }

@@ -8,12 +8,13 @@ use lib.Dec.{ltb, eqb}
 use borrow.Author.Tests.{eqb-true}
 use Rattle.laws.specs.Bits.{bit, digit}
 use Rattle.machine.specs.declared.Check.the-variants.{Passed}
+use Rattle.machine.specs.declared.ResponseBit.{ResponseBit}
 use Rattle.machine.specs.Machine.{Machine}
 use Rattle.job_plans.specs.declared.Span.{Span}
 use Rattle.job_plans.specs.declared.Job.{Job}
 use Rattle.job_plans.specs.declared.Held.the-variants.{Holds}
 use Rattle.job_plans.specs.Fields.{Kind, greatest, smallest, scaledAdd, product, unknown, kindOf, job, isZero, unusedZeroFor}
-use Rattle.job_plans.specs.Places.{none, firstFor, first, atFirst, badHeld, stepCheck}
+use Rattle.job_plans.specs.Places.{none, firstFor, first, atFirst, heldCheck, stepCheck}
 use Rattle.job_plans.proofs.Fair.{and-true, Fair, fair, extreme-fields, scaled-fields, product-fields}
 use Rattle.job_plans.proofs.Standing.{narrow, fair-held}
 use Rattle.job_tally.specs.Totals.{sumBelow, values, greatestOf, smallestOf, pulsesFor, pulses}
@@ -28,36 +29,36 @@ no-span s h =
     go : (l w : ℕ) → l ≡ 0 → w ≡ 0 → _≡_ {A = Span} (record { low = record { 0 = l }; width = w }) none
     go l w e f = rw (e, f) refl
 
-same : (kind key care x y : ℕ) (a b p : Span) (phase i j c x′ : ℕ) (b′ p′ : Span) (phase′ i′ j′ c′ : ℕ) → x ≡ x′ → b ≡ b′ → p ≡ p′ → phase ≡ phase′
-    → i ≡ i′ → j ≡ j′ → c ≡ c′ → job kind key care x y a b p phase i j c ≡ job kind key care x′ y a b′ p′ phase′ i′ j′ c′
+same : (kind key care x : ℕ) (y : ResponseBit) (a b p : Span) (phase i j c x′ : ℕ) (b′ p′ : Span) (phase′ i′ j′ c′ : ℕ) → x ≡ x′ → b ≡ b′ → p ≡ p′ → phase ≡ phase′
+    → i ≡ i′ → j ≡ j′ → c ≡ c′ → job kind key care (record { 0 = x }) y a b p phase i j c ≡ job kind key care (record { 0 = x′ }) y a b′ p′ phase′ i′ j′ c′
 same kind key care x y a b p phase i j c x′ b′ p′ phase′ i′ j′ c′ ex eb ep ef ei ej ec = rw (ex, eb, ep, ef, ei, ej, ec) refl
 
 module _ (o : Job) where
-  placed : (x′ : ℕ) (b′ p′ : Span) (phase′ i′ j′ c′ : ℕ) → o .x ≡ x′ → o .b ≡ b′ → o .p ≡ p′ → o .phase ≡ phase′ → o .i ≡ i′ → o .j ≡ j′ → o .c ≡ c′
-      → o ≡ job (o .kind) (o .key) (o .care) x′ (o .y) (o .a) b′ p′ phase′ i′ j′ c′
+  placed : (x′ : ℕ) (b′ p′ : Span) (phase′ i′ j′ c′ : ℕ) → o .x .0 ≡ x′ → o .b ≡ b′ → o .p ≡ p′ → o .phase ≡ phase′ → o .i ≡ i′ → o .j ≡ j′ → o .c ≡ c′
+      → o ≡ job (o .kind) (o .key) (o .care) (record { 0 = x′ }) (o .y) (o .a) b′ p′ phase′ i′ j′ c′
   placed x′ b′ p′ phase′ i′ j′ c′ =
-      same (o .kind) (o .key) (o .care) (o .x) (o .y) (o .a) (o .b) (o .p) (o .phase) (o .i) (o .j) (o .c) x′ b′ p′ phase′ i′ j′ c′
+      same (o .kind) (o .key) (o .care) (o .x .0) (o .y) (o .a) (o .b) (o .p) (o .phase) (o .i) (o .j) (o .c) x′ b′ p′ phase′ i′ j′ c′
 
   extreme : unusedZeroFor greatest o ≡ true → o .phase ≡ 0 → o .i ≡ o .a .width - 1 → o .j ≡ 0 → o ≡ firstFor greatest o
   extreme z ef ei ej =
       let c = and-true _ (eqb (o .c) 0) z in
       let j = and-true _ (eqb (o .j) 0) (c .0) in
       let b = and-true (isZero (o .b)) (isZero (o .p)) (j .0) in
-      placed (o .x) none none 0 (o .a .width - 1) 0 0 refl (no-span _ (b .0)) (no-span _ (b .1)) ef ei ej (eqb-true _ _ (c .1))
+      placed (o .x .0) none none 0 (o .a .width - 1) 0 0 refl (no-span _ (b .0)) (no-span _ (b .1)) ef ei ej (eqb-true _ _ (c .1))
 
   at-first : (k : Kind) → unusedZeroFor k o ≡ true → o .phase ≡ firstFor k o .phase → o .i ≡ firstFor k o .i → o .j ≡ firstFor k o .j → o ≡ firstFor k o
   at-first greatest z ef ei ej = extreme z ef ei ej
   at-first smallest z ef ei ej = extreme z ef ei ej
   at-first scaledAdd z ef ei ej =
       let j = and-true _ (eqb (o .j) 0) z in
-      let b = and-true (eqb (o .x) 0) (isZero (o .b)) (j .0) in
+      let b = and-true (eqb (o .x .0) 0) (isZero (o .b)) (j .0) in
       placed 0 none (o .p) 1 0 0 (o .c) (eqb-true _ _ (b .0)) (no-span _ (b .1)) refl ef ei ej refl
   at-first product z ef ei ej =
-      let c = and-true (eqb (o .x) 0) (eqb (o .c) 0) z in
+      let c = and-true (eqb (o .x .0) 0) (eqb (o .c) 0) z in
       placed 0 (o .b) (o .p) 1 0 0 0 (eqb-true _ _ (c .0)) refl refl ef ei ej (eqb-true _ _ (c .1))
   at-first unknown z ef ei ej = refl
 
-pub is-first : (n : ℕ) (o : Job) → badHeld n o ≡ false → atFirst o ≡ true → o ≡ first o
+pub is-first : (n : ℕ) (o : Job) → heldCheck n o ≡ Passed → atFirst o ≡ true → o ≡ first o
 unfolding first
 is-first n o h e =
     let k = kindOf (o .kind) in

@@ -1,16 +1,16 @@
 -- Greatest of A: X marks the selected words with the greatest value, after 1 + a pulses and one for each 1 of that value.
 use Prim.Native.Nat.{ℕ, _+_, _-_, _^_, _<_}
 use mathlib.Core.Path.{_≡_, refl, sym, ap, ap₂, _∙_}
-use mathlib.Core.Bool.{false}
 use mathlib.Core.List.{List}
 use native.Mathlib.Nat.{div-one}
 use native.Mathlib.Omega.{arith}
 use lib.Dec.{eqb}
 use lib.Pow.{pow-pos}
 use Rattle.laws.specs.Bits.{bit}
+use Rattle.machine.specs.declared.Check.the-variants.{Passed}
 use Rattle.machine.specs.Machine.{Machine}
 use Rattle.job_plans.specs.declared.Job.{Job}
-use Rattle.job_plans.specs.Fields.{greatest, kindOf, badExtreme, badUsed}
+use Rattle.job_plans.specs.Fields.{greatest, kindOf, extremeCheck, usedCheck}
 use Rattle.job_plans.specs.Places.{first}
 use Rattle.job_plans.specs.Commands.{bitOf}
 use Rattle.job_tally.specs.Totals.{ones, valueOf, values, greatestOf, pulses}
@@ -30,8 +30,8 @@ module _ (m : Machine) (o : Job) (accepted : Accepted m o) (kind : kindOf (o .ki
   abbrev top : ℕ
   top = greatestOf (values o (m .words) (m .responses))
 
-  used : badExtreme (m .width) (held o) ≡ false
-  unfolding badUsed badExtreme
+  used : extremeCheck (m .width) (held o) ≡ Passed
+  unfolding usedCheck extremeCheck
   used = rw kind at (begins m o accepted .used)
 
   fields : ExtremeFields (m .width) (held o)

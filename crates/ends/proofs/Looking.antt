@@ -9,6 +9,7 @@ use Rattle.laws.specs.Bits.{bit, every, pick, digit}
 use Rattle.laws.specs.Lists.{all}
 use Rattle.laws.proofs.Digits.{Bit, off, on, bit-lt}
 use Rattle.laws.proofs.Bits.{digit-at, number-lt, number-bit, every-like, every-all, every-at, every-eqb, bit-none}
+use Rattle.machine.specs.declared.ResponseBit.{ResponseBit}
 use Rattle.machine.specs.Machine.{responseBits, selected}
 use Rattle.machine.specs.Search.{code, codeAt, cared, asks, readOver, satisfied, matches, marked}
 use Rattle.machine.specs.Pulse.{wordAfter, responseAfter}
@@ -35,7 +36,7 @@ mark-lt true true h = omega arith
 mark-lt true false h = omega arith
 mark-lt false b h = h
 
-module _ (n key care t mask comp : ℕ) where
+module _ (n key care : ℕ) (t : ResponseBit) (mask comp : ℕ) where
   code-is : (i : ℕ) → codeAt (look key care t mask comp .panel) (0 + i) ≡ code 0 (bit mask i)
   code-is i = rw (zero-add i, bit-none i)
 
@@ -88,17 +89,17 @@ module _ (n key care t mask comp : ℕ) where
   look-word k w r = refl
 
   -- the target bit tells whether the word matched, and no other bit of the response changes
-  pub look-target : (k w r : ℕ) → t < responseBits
-      → bit (responseAfter n (look key care t mask comp .panel) (look key care t mask comp .lines) k w r) t
+  pub look-target : (k w r : ℕ) → t .0 < responseBits
+      → bit (responseAfter n (look key care t mask comp .panel) (look key care t mask comp .lines) k w r) (t .0)
       ≡ digit (matches n (look key care t mask comp .panel) w r)
   unfolding responseAfter marked
   look-target k w r h =
-      number-bit responseBits _ (λ j g. mark-lt (eqb (bit (2 ^ t) j) 1) (matches n (look key care t mask comp .panel) w r) (bit-lt (digit-at r j))) t h
-      ∙ rw (one-here t)
+      number-bit responseBits _ (λ j g. mark-lt (eqb (bit (2 ^ t .0) j) 1) (matches n (look key care t mask comp .panel) w r) (bit-lt (digit-at r j))) (t .0) h
+      ∙ rw (one-here (t .0))
 
-  pub look-others : (k w r i : ℕ) → i < responseBits → (i ≡ t → ⊥)
+  pub look-others : (k w r i : ℕ) → i < responseBits → (i ≡ t .0 → ⊥)
       → bit (responseAfter n (look key care t mask comp .panel) (look key care t mask comp .lines) k w r) i ≡ bit r i
   unfolding responseAfter marked
   look-others k w r i h g =
-      number-bit responseBits _ (λ j q. mark-lt (eqb (bit (2 ^ t) j) 1) (matches n (look key care t mask comp .panel) w r) (bit-lt (digit-at r j))) i h
-      ∙ rw (one-there t i g)
+      number-bit responseBits _ (λ j q. mark-lt (eqb (bit (2 ^ t .0) j) 1) (matches n (look key care t mask comp .panel) w r) (bit-lt (digit-at r j))) i h
+      ∙ rw (one-there (t .0) i g)

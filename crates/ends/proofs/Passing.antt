@@ -44,7 +44,7 @@ module _ (o : Job) (y-works : Working (o .care) (o .y)) where
   }
 
   -- Y is no bit of the criterion
-  pub chosen-kept : (m e : Machine) (k : ℕ) → ((i : ℕ) → i < responseBits → (i ≡ o .y → ⊥) → bit (response e k) i ≡ bit (response m k) i)
+  pub chosen-kept : (m e : Machine) (k : ℕ) → ((i : ℕ) → i < responseBits → (i ≡ o .y .0 → ⊥) → bit (response e k) i ≡ bit (response m k) i)
       → chosen e o k ≡ chosen m o k
   chosen-kept m e k h = selected-like (o .key) (o .care) (response m k) (response e k) (λ i g c. h i g (λ z. c (rw z (y-works .free))))
 
@@ -119,17 +119,17 @@ module _ (o : Job) (m : Machine) (s : Sound m) (y-works : Working (o .care) (o .
     word₁ : word m₁ k ≡ word m k
     word₁ = ap (λ (ws : List ℕ). getD ws k 0) (search-words m s (o .key) (o .care) (o .y) mask mask (y-works .bit-lt))
 
-    target₁ : bit (response m₁ k) (o .y) ≡ digit (opened k)
+    target₁ : bit (response m₁ k) (o .y .0) ≡ digit (opened k)
     target₁ = search-target m s (o .key) (o .care) (o .y) mask mask (y-works .bit-lt) k l ∙ ap (λ (t : Bool). digit (chosen m o k && t)) (found (word m k))
 
-    others₁ : (i : ℕ) → i < responseBits → (i ≡ o .y → ⊥) → bit (response m₁ k) i ≡ bit (response m k) i
+    others₁ : (i : ℕ) → i < responseBits → (i ≡ o .y .0 → ⊥) → bit (response m₁ k) i ≡ bit (response m k) i
     others₁ i g f = search-others m s (o .key) (o .care) (o .y) mask mask (y-works .bit-lt) k i l g f
 
     word₂ : word m₂ k ≡ pick (opened k) (added (m .width) (multiadd .panel) (word m k)) (word m k)
     word₂ =
         word-at m₁ sound₁ (multiadd .panel) (multiadd .lines) k also₁
         ∙ plus-word (m₁ .width) (o .y) (o .p) v k (word m₁ k) (response m₁ k)
-        ∙ rw (selected-one (o .y) (response m₁ k) (y-works .bit-lt), target₁, word₁, size₁ .width, is-one (opened k)) refl
+        ∙ rw (selected-one (o .y .0) (response m₁ k) (y-works .bit-lt), target₁, word₁, size₁ .width, is-one (opened k)) refl
       where
         is-one : (b : Bool) → eqb (digit b) 1 ≡ b
         is-one true = refl
@@ -147,7 +147,7 @@ module _ (o : Job) (m : Machine) (s : Sound m) (y-works : Working (o .care) (o .
   pub sound₂ : Sound m₂
   sound₂ =
       sound-after m₁ sound₁ (multiadd .panel) (multiadd .lines)
-      (λ k w r h. rw (plus-word (m₁ .width) (o .y) (o .p) v k w r) (go (selected (2 ^ o .y) (2 ^ o .y) r) w h))
+      (λ k w r h. rw (plus-word (m₁ .width) (o .y) (o .p) v k w r) (go (selected (2 ^ o .y .0) (2 ^ o .y .0) r) w h))
     where
       go : (b : Bool) (w : ℕ) → w < 2 ^ m₁ .width → pick b (added (m₁ .width) (multiadd .panel) w) w < 2 ^ m₁ .width
       go true w h = plus-fits (m₁ .width) (o .y) (o .p) v w (p .some) (rw (size₁ .width) (p .fits)) small h

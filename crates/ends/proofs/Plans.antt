@@ -1,15 +1,16 @@
 -- The commands and places of greatest and smallest: the same but for the bit that a trial wants.
 use Prim.Native.Nat.{ℕ, zero, suc, _+_, _-_, _^_, _<_}
 use mathlib.Core.Path.{_≡_, refl, ap, _∙_}
-use mathlib.Core.Bool.{true, false, _&&_, _||_, or-true}
+use mathlib.Core.Bool.{true, _&&_, _||_, or-true}
 use native.Mathlib.Omega.{arith}
 use lib.Dec.{ltb, eqb}
 use borrow.Author.Tests.{eq-eqb, lt-ltb}
 use Rattle.laws.specs.Bits.{pick}
+use Rattle.machine.specs.declared.Check.the-variants.{Passed}
 use Rattle.job_plans.specs.declared.Job.{Job}
 use Rattle.job_plans.specs.declared.Held.the-variants.{Holds}
-use Rattle.job_plans.specs.Fields.{Kind, greatest, smallest, scaledAdd, product, unknown, kindOf, badExtreme, badUsedFor, badUsed, unusedZeroFor, unusedZero}
-use Rattle.job_plans.specs.Places.{inTableFor, inTable, badHeld, first, firstFor, moved, nextBelow, afterTrial, afterSecond, next}
+use Rattle.job_plans.specs.Fields.{Kind, greatest, smallest, scaledAdd, product, unknown, kindOf, extremeCheck, usedCheckFor, usedCheck, unusedZeroFor, unusedZero}
+use Rattle.job_plans.specs.Places.{inTableFor, inTable, heldCheck, first, firstFor, moved, nextBelow, afterTrial, afterSecond, next}
 use Rattle.job_plans.specs.Commands.{command, look, bitOf, trial, second}
 use Rattle.ends.proofs.Fields.{extreme-fields}
 use Rattle.ends.proofs.Trials.{below-is, Plan}
@@ -37,7 +38,7 @@ first-of : {k : Kind} → Extreme k → (o : Job) → firstFor k o ≡ held o
 first-of most o = refl
 first-of least o = refl
 
-pub used-of : {k : Kind} → Extreme k → (n : ℕ) (o : Job) → badUsedFor k n o ≡ badExtreme n o
+pub used-of : {k : Kind} → Extreme k → (n : ℕ) (o : Job) → usedCheckFor k n o ≡ extremeCheck n o
 used-of most n o = refl
 used-of least n o = refl
 
@@ -49,7 +50,7 @@ place-of : {k : Kind} → Extreme k → (o : Job) → inTableFor k o ≡ inTable
 place-of most o = refl
 place-of least o = refl
 
-trial-of : {k : Kind} → Extreme k → (o : Job) → trial k o ≡ look (2 ^ o .x) (2 ^ o .x) (o .y) (bitOf (o .a) (o .i)) (wanted k o (o .i))
+trial-of : {k : Kind} → Extreme k → (o : Job) → trial k o ≡ look (2 ^ o .x .0) (2 ^ o .x .0) (o .y) (bitOf (o .a) (o .i)) (wanted k o (o .i))
 trial-of most o = refl
 trial-of least o = refl
 
@@ -57,7 +58,7 @@ wanted-of : {k : Kind} → Extreme k → (o : Job) (f i : ℕ) → wanted k (mov
 wanted-of most o f i = refl
 wanted-of least o f i = refl
 
-second-of : {k : Kind} → Extreme k → (o : Job) → second k o ≡ look (2 ^ o .y) (2 ^ o .y) (o .x) 0 0
+second-of : {k : Kind} → Extreme k → (o : Job) → second k o ≡ look (2 ^ o .y .0) (2 ^ o .y .0) (o .x) 0 0
 second-of most o = refl
 second-of least o = refl
 
@@ -75,12 +76,12 @@ pub first-is : {k : Kind} (o : Job) → Extreme k → kindOf (o .kind) ≡ k →
 unfolding first
 first-is o x kind = rw kind (first-of x o)
 
-module _ (n : ℕ) (o : Job) (k : Kind) (x : Extreme k) (kind : kindOf (o .kind) ≡ k) (used : badExtreme n (held o) ≡ false) where
-  fits : (f i : ℕ) → inTableFor greatest (moved (held o) f i 0) ≡ true → badHeld n (moved (held o) f i 0) ≡ false
-  unfolding badHeld badUsed unusedZero inTable badExtreme
+module _ (n : ℕ) (o : Job) (k : Kind) (x : Extreme k) (kind : kindOf (o .kind) ≡ k) (used : extremeCheck n (held o) ≡ Passed) where
+  fits : (f i : ℕ) → inTableFor greatest (moved (held o) f i 0) ≡ true → heldCheck n (moved (held o) f i 0) ≡ Passed
+  unfolding heldCheck usedCheck unusedZero inTable extremeCheck
   fits f i h = rw (kind, used-of x n (moved (held o) f i 0), moved-used, clear-of x o f i, place-of x (moved (held o) f i 0), h)
     where
-      moved-used : badExtreme n (moved (held o) f i 0) ≡ false
+      moved-used : extremeCheck n (moved (held o) f i 0) ≡ Passed
       moved-used = used
 
   some : 0 < o .a .width
@@ -90,7 +91,7 @@ module _ (n : ℕ) (o : Job) (k : Kind) (x : Extreme k) (kind : kindOf (o .kind)
   unfolding command next
   plan = record {
     opens = refl;
-    tries = λ i. rw kind (trial-of x (moved (held o) 1 i 0) ∙ ap (look (2 ^ o .x) (2 ^ o .x) (o .y) (bitOf (o .a) i)) (wanted-of x o 1 i));
+    tries = λ i. rw kind (trial-of x (moved (held o) 1 i 0) ∙ ap (look (2 ^ o .x .0) (2 ^ o .x .0) (o .y) (bitOf (o .a) i)) (wanted-of x o 1 i));
     narrows = λ i. rw kind (second-of x (moved (held o) 2 i 0));
     after-opening = λ c. top (o .a .width) some;
     after-trial = λ i c. rw kind (after-trial-of x (moved (held o) 1 i 0) c ∙ rw (below-is (held o) 1 i 0 i));

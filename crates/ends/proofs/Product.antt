@@ -1,14 +1,14 @@
 -- Product: "P becomes P+A·B", after twice the number of pairs i, j with i+j below p.
 use Prim.Native.Nat.{ℕ, zero, suc, _+_, _*_, _<_}
 use mathlib.Core.Path.{_≡_, refl}
-use mathlib.Core.Bool.{false}
 use native.Mathlib.Omega.{arith}
 use lib.Dec.{ltb}
 use Rattle.laws.specs.Bits.{digit}
+use Rattle.machine.specs.declared.Check.the-variants.{Passed}
 use Rattle.machine.specs.Machine.{Machine}
 use Rattle.job_plans.specs.declared.Job.{Job}
 use Rattle.job_plans.specs.declared.Held.the-variants.{Holds}
-use Rattle.job_plans.specs.Fields.{product, kindOf, badScaledAdd, badProduct, badUsed}
+use Rattle.job_plans.specs.Fields.{product, kindOf, productCheck, usedCheck}
 use Rattle.job_plans.specs.Places.{first, firstFor, moved}
 use Rattle.job_tally.specs.Totals.{sumBelow, valueOf, pulses}
 use Rattle.ends.specs.Ends.{Accepted, Course, ended, productGain, Adds}
@@ -35,8 +35,8 @@ module _ (m : Machine) (o : Job) (accepted : Accepted m o) (kind : kindOf (o .ki
   unfolding first
   first-is = rw kind
 
-  used : badProduct (m .width) (held o) ≡ false
-  unfolding badUsed badProduct badScaledAdd
+  used : productCheck (m .width) (held o) ≡ Passed
+  unfolding usedCheck productCheck
   used = rw kind at (begins m o accepted .used)
 
   fields : ProductFields (m .width) (held o)

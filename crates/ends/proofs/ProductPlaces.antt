@@ -12,10 +12,11 @@ use borrow.Author.Tests.{lt-ltb, le-ltb, ltb-true}
 use Rattle.laws.specs.Bits.{bit, pick}
 use Rattle.laws.proofs.Digits.{Bit, off, on}
 use Rattle.laws.proofs.Bits.{digit-at, or-bit}
+use Rattle.machine.specs.declared.Check.the-variants.{Passed}
 use Rattle.job_plans.specs.declared.Job.{Job}
 use Rattle.job_plans.specs.declared.Held.the-variants.{Holds}
-use Rattle.job_plans.specs.Fields.{product, kindOf, badScaledAdd, badProduct, badUsed, unusedZero}
-use Rattle.job_plans.specs.Places.{inTable, badHeld, moved, nextAbove, nextWithin, next}
+use Rattle.job_plans.specs.Fields.{product, kindOf, productCheck, usedCheck, unusedZero}
+use Rattle.job_plans.specs.Places.{inTable, heldCheck, moved, nextAbove, nextWithin, next}
 use Rattle.job_plans.specs.Commands.{command, bitOf}
 use Rattle.ends.proofs.Agreeing.{agrees, agrees-two, one-here}
 use Rattle.ends.proofs.Fields.{ProductFields, product-fields}
@@ -70,13 +71,13 @@ both-found n s t w hs ht =
     agrees-two n s t w (bitOr (2 ^ s) (2 ^ t)) hs ht
     ∙ ap₂ (λ (x y : ℕ). eqb (bit w s) x && eqb (bit w t) y) (mask-one s t .0) (mask-one s t .1)
 
-module _ (n : ℕ) (b : Job) (kind : kindOf (b .kind) ≡ product) (used : badProduct n b ≡ false) (clear : (eqb (b .x) 0 && eqb (b .c) 0) ≡ true) where
+module _ (n : ℕ) (b : Job) (kind : kindOf (b .kind) ≡ product) (used : productCheck n b ≡ Passed) (clear : (eqb (b .x .0) 0 && eqb (b .c) 0) ≡ true) where
   fields : ProductFields n b
   fields = product-fields n b used
 
   -- the job at a place of its table is in order
-  placed : (f i j : ℕ) → (eqb f 1 || eqb f 2) ≡ true → i < lesser b → j < rowOf b i → badHeld n (moved b f i j) ≡ false
-  unfolding badHeld badUsed unusedZero inTable badProduct badScaledAdd
+  placed : (f i j : ℕ) → (eqb f 1 || eqb f 2) ≡ true → i < lesser b → j < rowOf b i → heldCheck n (moved b f i j) ≡ Passed
+  unfolding heldCheck usedCheck unusedZero inTable productCheck
   placed f i j h l r =
       rw (
         kind,
@@ -88,7 +89,7 @@ module _ (n : ℕ) (b : Job) (kind : kindOf (b .kind) ≡ product) (used : badPr
         lt-ltb (i + j) (b .p .width) (omega arith),
       )
     where
-      moved-used : badProduct n (moved b f i j) ≡ false
+      moved-used : productCheck n (moved b f i j) ≡ Passed
       moved-used = used
 
   good : (i j : ℕ) → i < lesser b → j < rowOf b i → Good n b (stop b i j)

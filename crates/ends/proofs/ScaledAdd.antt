@@ -1,12 +1,12 @@
 -- Scaled add: "P becomes P+c·A", after 2·min(a,p) pulses.
 use Prim.Native.Nat.{ℕ, zero, suc, _+_, _*_, _%_, _^_, _<_, min}
 use mathlib.Core.Path.{_≡_, refl, _∙_}
-use mathlib.Core.Bool.{false}
 use native.Mathlib.Omega.{arith}
+use Rattle.machine.specs.declared.Check.the-variants.{Passed}
 use Rattle.machine.specs.Machine.{Machine}
 use Rattle.job_plans.specs.declared.Job.{Job}
 use Rattle.job_plans.specs.declared.Held.the-variants.{Holds}
-use Rattle.job_plans.specs.Fields.{scaledAdd, kindOf, badScaledAdd, badUsed}
+use Rattle.job_plans.specs.Fields.{scaledAdd, kindOf, scaledAddCheck, usedCheck}
 use Rattle.job_plans.specs.Places.{first, firstFor, moved}
 use Rattle.job_tally.specs.Totals.{valueOf, pulses}
 use Rattle.ends.specs.Ends.{Accepted, Course, ended, scaledGain, Adds}
@@ -40,8 +40,8 @@ module _ (m : Machine) (o : Job) (accepted : Accepted m o) (kind : kindOf (o .ki
   unfolding first
   first-is = rw kind
 
-  used : badScaledAdd (m .width) (held o) ≡ false
-  unfolding badUsed badScaledAdd
+  used : scaledAddCheck (m .width) (held o) ≡ Passed
+  unfolding usedCheck scaledAddCheck
   used = rw kind at (begins m o accepted .used)
 
   fields : AddFields (m .width) (held o)

@@ -11,10 +11,11 @@ use lib.ListN.{length}
 use lib.Pow.{pow-pos}
 use borrow.Author.Tests.{lt-ltb, le-ltb, ltb-true}
 use Rattle.laws.specs.Bits.{bit, pick}
+use Rattle.machine.specs.declared.Check.the-variants.{Passed}
 use Rattle.job_plans.specs.declared.Job.{Job}
 use Rattle.job_plans.specs.declared.Held.the-variants.{Nothing, Holds}
-use Rattle.job_plans.specs.Fields.{scaledAdd, kindOf, isZero, badScaledAdd, badUsed, unusedZero}
-use Rattle.job_plans.specs.Places.{inTable, badHeld, moved, nextAbove, next}
+use Rattle.job_plans.specs.Fields.{scaledAdd, kindOf, isZero, scaledAddCheck, usedCheck, unusedZero}
+use Rattle.job_plans.specs.Places.{inTable, heldCheck, moved, nextAbove, next}
 use Rattle.job_plans.specs.Commands.{command, bitOf}
 use Rattle.ends.proofs.Agreeing.{agrees-one, one-here}
 use Rattle.ends.proofs.Fields.{AddFields, add-fields}
@@ -60,16 +61,16 @@ above-none b f i j h = above-is b f i j false (go (ltb (suc i) (b .a .width)) re
     go true e = le-ltb (suc i) (b .p .width) (omega (arith, ltb-true (suc i) (b .a .width) e))
     go false e = refl
 
-module _ (n : ℕ) (b : Job) (kind : kindOf (b .kind) ≡ scaledAdd) (used : badScaledAdd n b ≡ false) (clear : (eqb (b .x) 0 && isZero (b .b)) ≡ true) where
+module _ (n : ℕ) (b : Job) (kind : kindOf (b .kind) ≡ scaledAdd) (used : scaledAddCheck n b ≡ Passed) (clear : (eqb (b .x .0) 0 && isZero (b .b)) ≡ true) where
   fields : AddFields n b
   fields = add-fields n b used
 
   -- the job at a place of its table is in order
-  placed : (f i : ℕ) → (eqb f 1 || eqb f 2) ≡ true → i < lesser b → badHeld n (moved b f i 0) ≡ false
-  unfolding badHeld badUsed unusedZero inTable badScaledAdd
+  placed : (f i : ℕ) → (eqb f 1 || eqb f 2) ≡ true → i < lesser b → heldCheck n (moved b f i 0) ≡ Passed
+  unfolding heldCheck usedCheck unusedZero inTable scaledAddCheck
   placed f i h l = rw (kind, moved-used, clear, h, lt-ltb i (b .a .width) (omega arith), lt-ltb i (b .p .width) (omega arith))
     where
-      moved-used : badScaledAdd n (moved b f i 0) ≡ false
+      moved-used : scaledAddCheck n (moved b f i 0) ≡ Passed
       moved-used = used
 
   good : (i : ℕ) → i < lesser b → Good n b (stop b i)

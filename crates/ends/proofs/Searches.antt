@@ -8,6 +8,7 @@ use lib.ListN.{length, getD}
 use Rattle.laws.specs.Bits.{bit, digit}
 use Rattle.laws.specs.Lists.{count}
 use Rattle.laws.proofs.Lists.{zip-kept}
+use Rattle.machine.specs.declared.ResponseBit.{ResponseBit}
 use Rattle.machine.specs.Machine.{Machine, responseBits, selected}
 use Rattle.machine.specs.Pulse.{counts, countOf, pulsed}
 use Rattle.machine.proofs.Refusals.{Sound}
@@ -38,7 +39,7 @@ count-some f (w ∷ ws) (r ∷ rs) (suc k) e l h = omega (arith, count-some f ws
 
 -- ---- the search
 
-module _ (m : Machine) (s : Sound m) (key care t mask comp : ℕ) (t-lt : t < responseBits) where
+module _ (m : Machine) (s : Sound m) (key care : ℕ) (t : ResponseBit) (mask comp : ℕ) (t-lt : t .0 < responseBits) where
   abbrev search : Command
   search = look key care t mask comp
 
@@ -63,13 +64,13 @@ module _ (m : Machine) (s : Sound m) (key care t mask comp : ℕ) (t-lt : t < re
   unfolding pulsed
   search-words = zip-kept _ 0 (m .words) (m .responses) (same m s) (λ k w r. look-word (m .width) key care t mask comp k w r)
 
-  pub search-target : (k : ℕ) → k < length (m .words) → bit (response after k) t ≡ digit (hit k)
+  pub search-target : (k : ℕ) → k < length (m .words) → bit (response after k) (t .0) ≡ digit (hit k)
   search-target k l =
       rw (response-at m s (search .panel) (search .lines) k l)
       (look-target (m .width) key care t mask comp k (word m k) (response m k) t-lt
       ∙ ap digit (look-matches (m .width) key care t mask comp (pos m s) (word m k) (response m k)))
 
-  pub search-others : (k i : ℕ) → k < length (m .words) → i < responseBits → (i ≡ t → ⊥) → bit (response after k) i ≡ bit (response m k) i
+  pub search-others : (k i : ℕ) → k < length (m .words) → i < responseBits → (i ≡ t .0 → ⊥) → bit (response after k) i ≡ bit (response m k) i
   search-others k i l g f =
       rw (response-at m s (search .panel) (search .lines) k l) (look-others (m .width) key care t mask comp k (word m k) (response m k) i g f)
 

@@ -12,9 +12,10 @@ use borrow.Author.Tests.{eq-eqb, ne-eqb, eqb-true, eqb-false}
 use Rattle.laws.specs.Bits.{bit, digit}
 use Rattle.laws.proofs.Digits.{Bit, off, on}
 use Rattle.laws.proofs.Bits.{digit-at, not-bit, bit-none}
+use Rattle.machine.specs.declared.Check.the-variants.{Passed}
 use Rattle.machine.specs.Machine.{Machine}
 use Rattle.job_plans.specs.declared.Job.{Job}
-use Rattle.job_plans.specs.Fields.{smallest, kindOf, badExtreme, badUsed}
+use Rattle.job_plans.specs.Fields.{smallest, kindOf, extremeCheck, usedCheck}
 use Rattle.job_plans.specs.Places.{first}
 use Rattle.job_plans.specs.Commands.{bitOf}
 use Rattle.job_tally.specs.Totals.{ones, zeros, valueOf, values, smallestOf, pulses}
@@ -53,8 +54,8 @@ module _ (m : Machine) (o : Job) (accepted : Accepted m o) (kind : kindOf (o .ki
   abbrev mirror : ℕ → ℕ
   mirror w = 2 ^ o .a .width - 1 - valueOf (o .a) w
 
-  used : badExtreme (m .width) (held o) ≡ false
-  unfolding badUsed badExtreme
+  used : extremeCheck (m .width) (held o) ≡ Passed
+  unfolding usedCheck extremeCheck
   used = rw kind at (begins m o accepted .used)
 
   fields : ExtremeFields (m .width) (held o)

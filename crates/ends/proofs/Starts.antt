@@ -1,19 +1,17 @@
 -- What an accepted start shows, and a run of the stated length as the job's whole course.
 use mathlib.Core.Path.{_≡_, refl, ap}
-use mathlib.Core.Bool.{Bool, true, false, _||_}
 use Rattle.machine.specs.declared.Check.{Check}
 use Rattle.machine.specs.declared.Check.the-variants as check
-use Rattle.machine.specs.declared.Refusal.the-variants.{Unfit}
 use Rattle.machine.specs.Machine.{Machine}
-use Rattle.machine.specs.Refusals.{_else_, refuse, machineCheck, answerBy}
-use Rattle.machine.proofs.Refusals.{Sound, sound, else-passed, not-refused}
+use Rattle.machine.specs.Refusals.{_else_, machineCheck, answerBy}
+use Rattle.machine.proofs.Refusals.{Sound, sound, else-passed}
 use Rattle.job_plans.specs.declared.Job.{Job}
 use Rattle.job_plans.specs.declared.Held.{Held}
 use Rattle.job_plans.specs.declared.Held.the-variants.{Nothing, Holds}
 use Rattle.jobs.specs.declared.Started.the-variants as started
-use Rattle.job_plans.specs.Fields.{badUsed}
+use Rattle.job_plans.specs.Fields.{usedCheck}
 use Rattle.job_plans.specs.Places.{first}
-use Rattle.jobs.specs.Calls.{isHeld, startCheck, startOf}
+use Rattle.jobs.specs.Calls.{freeCheck, startCheck, startOf}
 use Rattle.job_tally.specs.Totals.{pulses}
 use Rattle.jobs.specs.Runs.{State}
 use Rattle.ends.specs.Ends.{Accepted, begun, Course, ended}
@@ -22,7 +20,7 @@ use Rattle.ends.proofs.Steps.{on, Run, run-ends, run-gives}
 
 pub record Begun (m : Machine) (o : Job) : Type 0 where
   pub sound : Sound m
-  pub used : badUsed (m .width) o ≡ false
+  pub used : usedCheck (m .width) o ≡ check.Passed
 
 started-passed : (c : Check) (o : Job) → answerBy c started.Refused (started.Holds o) ≡ started.Holds o → c ≡ check.Passed
 started-passed check.Passed o h = refl
@@ -32,7 +30,7 @@ pub begins : (m : Machine) (o : Job) → Accepted m o → Begun m o
 unfolding startOf startCheck
 begins m o h =
     let p = else-passed (machineCheck m) _ (started-passed (startCheck m Nothing o) (first o) h) in
-    record { sound = sound m (p .0); used = not-refused Unfit _ (p .1) }
+    record { sound = sound m (p .0); used = else-passed (usedCheck (m .width) o) (freeCheck Nothing) (p .1) .0 }
 
 pub accepted-by : (m : Machine) (o : Job) → startCheck m Nothing o ≡ check.Passed → Accepted m o
 unfolding startOf
@@ -41,13 +39,14 @@ accepted-by m o h = rw h
 -- whatever was held before: a start that is accepted finds no job held, and holds the job at its first place
 pub accepted-is : (m : Machine) (h : Held) (o q : Job) → startOf m h o ≡ started.Holds q → (h ≡ Nothing) × (q ≡ first o)
 unfolding startOf startCheck
-accepted-is m h o q e = go h (machineCheck m) (badUsed (m .width) o) e
+accepted-is m h o q e = go h (machineCheck m) (usedCheck (m .width) o) e
   where
-    go : (h : Held) (c : Check) (t : Bool) → answerBy (c else refuse Unfit (isHeld h || t)) started.Refused (started.Holds (first o)) ≡ started.Holds q → (h ≡ Nothing) × (q ≡ first o)
-    go Nothing check.Passed false e = (refl, cc)
-    go Nothing check.Passed true e = (refl, cc)
-    go (Holds p) check.Passed t e = (cc, cc)
-    go h (check.Refused r) t e = (cc, cc)
+    go : (h : Held) (c u : Check) → answerBy (c else u else freeCheck h) started.Refused (started.Holds (first o)) ≡ started.Holds q → (h ≡ Nothing) × (q ≡ first o)
+    go Nothing check.Passed check.Passed e = (refl, cc)
+    go Nothing check.Passed (check.Refused r) e = (refl, cc)
+    go (Holds p) check.Passed check.Passed e = (cc, cc)
+    go (Holds p) check.Passed (check.Refused r) e = (cc, cc)
+    go h (check.Refused r) u e = (cc, cc)
 
 -- the stated number of accepted steps, at whose end no job is held
 abbrev pub Whole : Machine → Job → Machine → Type 0

@@ -1,12 +1,10 @@
 -- Steps one after the other: each accepted, each one command's pulse.
 use Prim.Native.Nat.{ℕ, zero, suc, _+_, _<_}
 use mathlib.Core.Path.{_≡_, refl, ap, _∙_}
-use mathlib.Core.Bool.{false}
 use native.Mathlib.Nat.{zero-add}
 use native.Mathlib.Omega.{arith}
 use Rattle.machine.specs.declared.Check.{Check}
 use Rattle.machine.specs.declared.Check.the-variants.{Passed, Refused}
-use Rattle.machine.specs.declared.Refusal.the-variants.{Unfit}
 use Rattle.machine.specs.Refusals.{answerBy}
 use Rattle.machine.specs.Machine.{Machine}
 use Rattle.machine.specs.Pulse.{countOf, pulsed}
@@ -17,9 +15,9 @@ use Rattle.job_plans.specs.declared.Held.the-variants.{Nothing, Holds}
 use Rattle.job_plans.specs.declared.Command.{Command}
 use Rattle.jobs.specs.declared.Stepped.{Stepped}
 use Rattle.jobs.specs.declared.Stepped.the-variants as answer
-use Rattle.job_plans.specs.Places.{badHeld, next}
+use Rattle.job_plans.specs.Places.{heldCheck, next}
 use Rattle.job_plans.specs.Commands.{command}
-use Rattle.jobs.specs.Calls.{stepCheck, stepOf, machineAfter, afterStep}
+use Rattle.jobs.specs.Calls.{stepCheck, gave, stepOf, machineAfter, afterStep}
 use Rattle.jobs.specs.Runs.{State, heldAfter, stepped, steps}
 use Rattle.ends.specs.Ends.{Gives}
 use Rattle.ends.proofs.Machines.{passes}
@@ -35,7 +33,7 @@ countedBy m q = countOf m (command q .panel) (command q .lines)
 
 -- ---- one step of a held job that is in order, on a sound machine
 
-module _ (m : Machine) (q : Job) (s : Sound m) (f : badHeld (m .width) q ≡ false) where
+module _ (m : Machine) (q : Job) (s : Sound m) (f : heldCheck (m .width) q ≡ Passed) where
   answered : stepOf m (Holds q) ≡ answer.Gave (command q) (countedBy m q) (next q (countedBy m q))
   unfolding stepOf stepCheck
   answered = rw (passes m s, f)
@@ -74,7 +72,7 @@ idle : (m : Machine) → stepped (on m Nothing) ≡ on m Nothing
 unfolding stepped afterStep stepOf
 idle m = go (stepCheck m Nothing)
   where
-    go : (c : Check) → on (machineAfter (answerBy c answer.Refused (answer.Refused Unfit)) m) (heldAfter (answerBy c answer.Refused (answer.Refused Unfit)) Nothing) ≡ on m Nothing
+    go : (c : Check) → on (machineAfter (answerBy c answer.Refused (gave m Nothing)) m) (heldAfter (answerBy c answer.Refused (gave m Nothing)) Nothing) ≡ on m Nothing
     go Passed = refl
     go (Refused r) = refl
 
@@ -101,6 +99,6 @@ run-gives (then g r) zero h = g
 run-gives (then g r) (suc j) h = run-gives r j (omega arith)
 
 -- one step before the others, whose end is t
-pub step-then : (m : Machine) (q : Job) (t : State) → Sound m → badHeld (m .width) q ≡ false → {k : ℕ}
+pub step-then : (m : Machine) (q : Job) (t : State) → Sound m → heldCheck (m .width) q ≡ Passed → {k : ℕ}
     → Run k (on (pulsedBy m q) (next q (countedBy m q))) t → Run (suc k) (on m (Holds q)) t
 step-then m q t s f {k} r = then {k = k} {t = t} (gives m q s f) (rw (one-step m q s f) r)

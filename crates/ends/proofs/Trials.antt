@@ -8,11 +8,12 @@ use lib.Dec.{eqb}
 use lib.ListN.{length, getD}
 use Rattle.laws.specs.Bits.{bit, pick, digit}
 use Rattle.laws.proofs.Bits.{bit-none}
+use Rattle.machine.specs.declared.Check.the-variants.{Passed}
 use Rattle.machine.specs.Machine.{Machine, responseBits, selected}
 use Rattle.machine.proofs.Refusals.{Sound}
 use Rattle.job_plans.specs.declared.Job.{Job}
 use Rattle.job_plans.specs.declared.Held.the-variants.{Holds}
-use Rattle.job_plans.specs.Places.{badHeld, moved, nextBelow, next}
+use Rattle.job_plans.specs.Places.{heldCheck, moved, nextBelow, next}
 use Rattle.job_plans.specs.Commands.{command, look, bitOf}
 use Rattle.ends.specs.Ends.{word, response, chosen, SameSize}
 use Rattle.ends.proofs.Agreeing.{agrees, agrees-none, selected-one}
@@ -25,13 +26,13 @@ use Rattle.ends.proofs.Narrowing.{same, same-top, same-one, same-zero, 
 -- the commands and places of an extreme: the trial at place i wants COMP's bits in the bit of A there
 pub record Plan (n : ℕ) (b : Job) (comp : ℕ → ℕ) : Type 0 where
   pub opens : command b ≡ look (b .key) (b .care) (b .x) 0 0
-  pub tries : (i : ℕ) → command (moved b 1 i 0) ≡ look (2 ^ b .x) (2 ^ b .x) (b .y) (bitOf (b .a) i) (comp i)
-  pub narrows : (i : ℕ) → command (moved b 2 i 0) ≡ look (2 ^ b .y) (2 ^ b .y) (b .x) 0 0
+  pub tries : (i : ℕ) → command (moved b 1 i 0) ≡ look (2 ^ b .x .0) (2 ^ b .x .0) (b .y) (bitOf (b .a) i) (comp i)
+  pub narrows : (i : ℕ) → command (moved b 2 i 0) ≡ look (2 ^ b .y .0) (2 ^ b .y .0) (b .x) 0 0
   pub after-opening : (c : ℕ) → next b c ≡ nextBelow b (b .a .width)
   pub after-trial : (i c : ℕ) → next (moved b 1 i 0) c ≡ pick (eqb c 0) (nextBelow b i) (Holds (moved b 2 i 0))
   pub after-second : (i c : ℕ) → next (moved b 2 i 0) c ≡ nextBelow b i
-  pub first-fits : badHeld n b ≡ false
-  pub fits : (f i : ℕ) → (eqb f 1 || eqb f 2) ≡ true → i < b .a .width → badHeld n (moved b f i 0) ≡ false
+  pub first-fits : heldCheck n b ≡ Passed
+  pub fits : (f i : ℕ) → (eqb f 1 || eqb f 2) ≡ true → i < b .a .width → heldCheck n (moved b f i 0) ≡ Passed
 
 -- u is a word's value, of which the trial at place i finds the bit i; g is the best of the selected words, and 0 if there is none
 pub record Best (m : Machine) (b : Job) (comp : ℕ → ℕ) (u : ℕ → ℕ) (g : ℕ) : Type 0 where
@@ -64,8 +65,8 @@ module _ (m : Machine) (s : Sound m) (b : Job) (f : ExtremeFields (m .width) b) 
     pub sound : Sound e
     pub size : SameSize m e
     pub words : e .words ≡ m .words
-    pub marks : (k : ℕ) → k < length (m .words) → bit (response e k) (b .x) ≡ digit (mark i k)
-    pub others : (k j : ℕ) → k < length (m .words) → j < responseBits → (j ≡ b .x → ⊥) → (j ≡ b .y → ⊥) → bit (response e k) j ≡ bit (response m k) j
+    pub marks : (k : ℕ) → k < length (m .words) → bit (response e k) (b .x .0) ≡ digit (mark i k)
+    pub others : (k j : ℕ) → k < length (m .words) → j < responseBits → (j ≡ b .x .0 → ⊥) → (j ≡ b .y .0 → ⊥) → bit (response e k) j ≡ bit (response m k) j
 
   -- ---- the opening search
   pub opened : Narrowed (b .a .width) (pulsedBy m b)
@@ -92,10 +93,10 @@ module _ (m : Machine) (s : Sound m) (b : Job) (f : ExtremeFields (m .width) b) 
     hit k = mark (suc i) k && eqb (bit (u (word m k)) i) 1
 
     hit-is : (k : ℕ) → k < length (m .words)
-        → (selected (2 ^ b .x) (2 ^ b .x) (response e k) && agrees (e .width) (bitOf (b .a) i) (word e k) (comp i)) ≡ hit k
+        → (selected (2 ^ b .x .0) (2 ^ b .x .0) (response e k) && agrees (e .width) (bitOf (b .a) i) (word e k) (comp i)) ≡ hit k
     hit-is k l =
         ap₂ (λ (p q : Bool). p && q)
-        (selected-one (b .x) (response e k) (f .x-works .bit-lt) ∙ ap (λ (z : ℕ). eqb z 1) (n .marks k l) ∙ is-one (mark (suc i) k))
+        (selected-one (b .x .0) (response e k) (f .x-works .bit-lt) ∙ ap (λ (z : ℕ). eqb z 1) (n .marks k l) ∙ is-one (mark (suc i) k))
         (ap₂ (λ (v w : ℕ). agrees v (bitOf (b .a) i) w (comp i)) (n .size .width) (word-kept k) ∙ best .finds i (word m k) h)
 
     abbrev pub tried : Machine
@@ -105,22 +106,22 @@ module _ (m : Machine) (s : Sound m) (b : Job) (f : ExtremeFields (m .width) b) 
       pub sound : Sound tried
       pub size : SameSize m tried
       pub words : tried .words ≡ m .words
-      pub marks : (k : ℕ) → k < length (m .words) → bit (response tried k) (b .x) ≡ digit (mark (suc i) k)
-      pub hits : (k : ℕ) → k < length (m .words) → bit (response tried k) (b .y) ≡ digit (hit k)
-      pub others : (k j : ℕ) → k < length (m .words) → j < responseBits → (j ≡ b .x → ⊥) → (j ≡ b .y → ⊥) → bit (response tried k) j ≡ bit (response m k) j
+      pub marks : (k : ℕ) → k < length (m .words) → bit (response tried k) (b .x .0) ≡ digit (mark (suc i) k)
+      pub hits : (k : ℕ) → k < length (m .words) → bit (response tried k) (b .y .0) ≡ digit (hit k)
+      pub others : (k j : ℕ) → k < length (m .words) → j < responseBits → (j ≡ b .x .0 → ⊥) → (j ≡ b .y .0 → ⊥) → bit (response tried k) j ≡ bit (response m k) j
 
     pub tries : Tried
     tries =
         let y = f .y-works .bit-lt in
         let z = n .sound in
-        let c = 2 ^ b .x in
+        let c = 2 ^ b .x .0 in
         let a = bitOf (b .a) i in
         let v = comp i in
         record {
           sound = rw (plan .tries i) (search-sound e z c c (b .y) a v y);
           size = size-both m e tried (n .size) (rw (plan .tries i) (search-size e z c c (b .y) a v y));
           words = rw (plan .tries i) (search-words e z c c (b .y) a v y) ∙ n .words;
-          marks = λ k l. rw (plan .tries i) (search-others e z c c (b .y) a v y k (b .x) (also k l) (f .x-works .bit-lt) (f .differ)) ∙ n .marks k l;
+          marks = λ k l. rw (plan .tries i) (search-others e z c c (b .y) a v y k (b .x .0) (also k l) (f .x-works .bit-lt) (f .differ)) ∙ n .marks k l;
           hits = λ k l. rw (plan .tries i) (search-target e z c c (b .y) a v y k (also k l)) ∙ ap digit (hit-is k l);
           others = λ k j l g p q. rw (plan .tries i) (search-others e z c c (b .y) a v y k j (also k l) g q) ∙ n .others k j l g p q;
         }
@@ -135,14 +136,14 @@ module _ (m : Machine) (s : Sound m) (b : Job) (f : ExtremeFields (m .width) b) 
 
     pub count-zero : bit g i ≡ 0 → countedBy e (moved b 1 i 0) ≡ 0
     count-zero d =
-        rw (plan .tries i) (search-none e (n .sound) (2 ^ b .x) (2 ^ b .x) (b .y) (bitOf (b .a) i) (comp i) (f .y-works .bit-lt) (λ k l.
+        rw (plan .tries i) (search-none e (n .sound) (2 ^ b .x .0) (2 ^ b .x .0) (b .y) (bitOf (b .a) i) (comp i) (f .y-works .bit-lt) (λ k l.
         let k-in : k < length (m .words) = omega (arith, n .size .words) in hit-is k k-in ∙ none-hit d k k-in))
 
     pub count-more : bit g i ≡ 1 → 0 < countedBy e (moved b 1 i 0)
     count-more d =
         let some : 0 < g = not-none g i d in
         let w = best .has some in
-        rw (plan .tries i) (search-some e (n .sound) (2 ^ b .x) (2 ^ b .x) (b .y) (bitOf (b .a) i) (comp i) (f .y-works .bit-lt) (w .0) (also (w .0) (w .1))
+        rw (plan .tries i) (search-some e (n .sound) (2 ^ b .x .0) (2 ^ b .x .0) (b .y) (bitOf (b .a) i) (comp i) (f .y-works .bit-lt) (w .0) (also (w .0) (w .1))
         (hit-is (w .0) (w .1) ∙ rw (w .2, w .3) (some-one i g d)))
 
     -- ---- the best value has a 0 at place i: no word matched, and the marks stay
@@ -167,7 +168,7 @@ module _ (m : Machine) (s : Sound m) (b : Job) (f : ExtremeFields (m .width) b) 
     narrowed d =
         let x = f .x-works .bit-lt in
         let z = tries .sound in
-        let c = 2 ^ b .y in
+        let c = 2 ^ b .y .0 in
         record {
           sound = rw (plan .narrows i) (search-sound tried z c c (b .x) 0 0 x);
           size = size-both m tried second (tries .size) (rw (plan .narrows i) (search-size tried z c c (b .x) 0 0 x));
@@ -184,9 +185,9 @@ module _ (m : Machine) (s : Sound m) (b : Job) (f : ExtremeFields (m .width) b) 
         regroup false q r = refl
 
         left : (k : ℕ) → k < length (m .words)
-            → (selected (2 ^ b .y) (2 ^ b .y) (response tried k) && agrees (tried .width) 0 (word tried k) 0) ≡ mark i k
+            → (selected (2 ^ b .y .0) (2 ^ b .y .0) (response tried k) && agrees (tried .width) 0 (word tried k) 0) ≡ mark i k
         left k l =
             ap₂ (λ (p q : Bool). p && q)
-            (selected-one (b .y) (response tried k) (f .y-works .bit-lt) ∙ ap (λ (z : ℕ). eqb z 1) (tries .hits k l) ∙ is-one (hit k))
+            (selected-one (b .y .0) (response tried k) (f .y-works .bit-lt) ∙ ap (λ (z : ℕ). eqb z 1) (tries .hits k l) ∙ is-one (hit k))
             (agrees-none (tried .width) (word tried k) 0)
             ∙ and-true (hit k) ∙ regroup (chosen m b k) _ _ ∙ ap (λ (t : Bool). chosen m b k && t) (same-one i (u (word m k)) g d)

@@ -1,17 +1,18 @@
 -- An adding job visits its places in order: at each a trial search and a multiadd, and then it is over.
 use Prim.Native.Nat.{ℕ, suc, _+_, _*_, _^_, _<_}
 use mathlib.Core.Path.{_≡_, refl, ap₂, _∙_}
-use mathlib.Core.Bool.{Bool, false}
+use mathlib.Core.Bool.{Bool}
 use mathlib.Core.List.{List, [], _∷_}
 use native.Mathlib.Omega.{arith}
 use lib.ListN.{length}
 use Rattle.laws.specs.Bits.{bit, digit}
+use Rattle.machine.specs.declared.Check.the-variants.{Passed}
 use Rattle.machine.specs.Machine.{Machine}
 use Rattle.machine.proofs.Refusals.{Sound}
 use Rattle.job_plans.specs.declared.Job.{Job}
 use Rattle.job_plans.specs.declared.Held.{Held}
 use Rattle.job_plans.specs.declared.Held.the-variants.{Nothing, Holds}
-use Rattle.job_plans.specs.Places.{badHeld, moved, next}
+use Rattle.job_plans.specs.Places.{heldCheck, moved, next}
 use Rattle.job_plans.specs.Commands.{command, look, plus}
 use Rattle.ends.specs.Ends.{Outside, Adds}
 use Rattle.ends.proofs.Agreeing.{agrees}
@@ -43,8 +44,8 @@ pub record Good (n : ℕ) (b : Job) (q : Stop) : Type 0 where
   pub tried : command (moved b 1 (q .i) (q .j)) ≡ look (b .key) (b .care) (b .y) (q .mask) (q .mask)
   pub adds : command (moved b 2 (q .i) (q .j)) ≡ plus (b .y) (b .p) (q .value)
   pub onward : (c : ℕ) → next (moved b 1 (q .i) (q .j)) c ≡ Holds (moved b 2 (q .i) (q .j))
-  pub first-fits : badHeld n (moved b 1 (q .i) (q .j)) ≡ false
-  pub second-fits : badHeld n (moved b 2 (q .i) (q .j)) ≡ false
+  pub first-fits : heldCheck n (moved b 1 (q .i) (q .j)) ≡ Passed
+  pub second-fits : heldCheck n (moved b 2 (q .i) (q .j)) ≡ Passed
   pub small : q .value < 2 ^ b .p .width
   pub found : (w : ℕ) → agrees n (q .mask) w (q .mask) ≡ q .opens w
   pub kept : (w x : ℕ) → ((i : ℕ) → Outside (b .p) i → bit x i ≡ bit w i) → q .opens x ≡ q .opens w
@@ -98,7 +99,7 @@ module _ (b : Job) (y-works : Working (b .care) (b .y)) where
       let w₂ : after₂ m q .width ≡ n = z .adds .size .width ∙ e in
       let v = visits n p qs (r .2) (after₂ m q) (z .sound₂) w₂ in
       let l : 2 * length (q ∷ qs) ≡ suc (suc (2 * length qs)) = omega arith in
-      let second : badHeld (after₁ m q .width) (moved b 2 (q .i) (q .j)) ≡ false = rw (z .width₁, e) (r .0 .second-fits) in
+      let second : heldCheck (after₁ m q .width) (moved b 2 (q .i) (q .j)) ≡ Passed = rw (z .width₁, e) (r .0 .second-fits) in
       record {
         end = v .end;
         run = rw l (step-then m (moved b 1 (q .i) (q .j)) (on (v .end) Nothing) s (g .first-fits)

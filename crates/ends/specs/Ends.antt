@@ -85,13 +85,13 @@ pub record Adds (o : Job) (gain : ℕ → ℕ) (m e : Machine) : Type 0 where
       → valueOf (o .p) (word e k) ≡ (valueOf (o .p) (word m k) + gain (word m k)) % 2 ^ o .p .width
   pub outside : (k i : ℕ) → k < length (m .words) → Outside (o .p) i → bit (word e k) i ≡ bit (word m k) i
   pub unselected : (k : ℕ) → k < length (m .words) → chosen m o k ≡ false → word e k ≡ word m k
-  pub responses : (k i : ℕ) → k < length (m .words) → i < responseBits → (i ≡ o .y → ⊥) → bit (response e k) i ≡ bit (response m k) i
+  pub responses : (k i : ℕ) → k < length (m .words) → i < responseBits → (i ≡ o .y .0 → ⊥) → bit (response e k) i ≡ bit (response m k) i
 
 -- greatest and smallest: "X marks exactly the selected words with the extreme value"; "all other data bits, and response bits but the job's
 -- working ones, are unchanged"
 pub record Marks (o : Job) (best : ℕ) (m e : Machine) : Type 0 where
   pub size : SameSize m e
-  pub marks : (k : ℕ) → k < length (m .words) → bit (response e k) (o .x) ≡ digit (chosen m o k && eqb (valueOf (o .a) (word m k)) best)
+  pub marks : (k : ℕ) → k < length (m .words) → bit (response e k) (o .x .0) ≡ digit (chosen m o k && eqb (valueOf (o .a) (word m k)) best)
   pub words : e .words ≡ m .words
-  pub responses : (k i : ℕ) → k < length (m .words) → i < responseBits → (i ≡ o .x → ⊥) → (i ≡ o .y → ⊥)
+  pub responses : (k i : ℕ) → k < length (m .words) → i < responseBits → (i ≡ o .x .0 → ⊥) → (i ≡ o .y .0 → ⊥)
       → bit (response e k) i ≡ bit (response m k) i

@@ -1,8 +1,8 @@
 -- Document 01, 'Jobs': the number of pulses a job takes, from the job and the machine at its start.
 use Prim.Native.Nat.{ℕ, zero, suc, _+_, _*_, _-_, _^_, min, max}
-use mathlib.Core.Bool.{Bool, true, false, not, _&&_, _||_}
+use mathlib.Core.Bool.{Bool, false, not}
 use mathlib.Core.List.{List, [], _∷_}
-use lib.Dec.{eqb, ltb}
+use lib.Dec.{ltb}
 use Rattle.laws.specs.Bits.{bit, number, pick, digit}
 use Rattle.machine.specs.declared.Check.{Check}
 use Rattle.machine.specs.declared.Refusal.the-variants.{Unfit}

@@ -1,15 +1,12 @@
 -- What a step answers and leaves, from what its callees ensure.
 use Prim.Native.Nat.{ℕ}
-use mathlib.Core.Path.{_≡_, refl, sym, ap, ap₂, _∙_}
+use mathlib.Core.Path.{_≡_, refl, ap, _∙_}
 use mathlib.Core.List.{List}
-use native.Mathlib.Omega.{arith}
-use Rattle.machine.specs.declared.Answer.{Answer}
-use Rattle.machine.specs.declared.Answer.the-variants as answer
 use Rattle.machine.specs.declared.Refusal.{Refusal}
 use Rattle.machine.specs.declared.Check.the-variants.{Passed, Refused}
 use Rattle.machine.specs.Machine.{Machine}
-use Rattle.machine.specs.Pulse.{countOf, readOf, pulsed}
-use Rattle.machine.specs.Refusals.{pulseCheck, answerOf, after}
+use Rattle.machine.specs.Pulse.{countOf, pulsed}
+use Rattle.machine.specs.Refusals.{pulseCheck}
 use Rattle.job_plans.specs.declared.Job.{Job}
 use Rattle.job_plans.specs.declared.Held.{Held}
 use Rattle.job_plans.specs.declared.Held.the-variants.{Holds}
@@ -26,39 +23,25 @@ use Rattle.jobs.proofs.Taken.{passes}
 -- ---- a step that is not turned down
 
 module _ (m : Machine) (o : Job) (ok : stepCheck m (Holds o) ≡ Passed) where
-  pulse-passes : pulseCheck m (command o .panel) (command o .lines) ≡ Passed
-  pulse-passes = passes m o (good m (Holds o) ok .machine) (fair-held m o ok)
+  -- the command k that was given passes 1 to 7
+  pub pulse-passes : (k : Command) → k ≡ command o → pulseCheck m (k .panel) (k .lines) ≡ Passed
+  pulse-passes k ke = rw ke (passes m o (good m (Holds o) ok .machine) (fair-held m o ok))
 
-  answered : answerOf m (command o .panel) (command o .lines) ≡ answer.Done (countOf m (command o .panel) (command o .lines)) (readOf m (command o .panel) (command o .lines))
-  unfolding answerOf
-  answered = rw pulse-passes
-
-  changed : after m (command o .panel) (command o .lines) ≡ pulsed m (command o .panel) (command o .lines)
-  unfolding after
-  changed = rw pulse-passes
-
-  -- the command k that was given, its answer, and what stands after
-  module _ (k : Command) (ke : k ≡ command o) (a : Answer) (ae : a ≡ answerOf m (k .panel) (k .lines)) where
-    same : a ≡ answerOf m (command o .panel) (command o .lines)
-    same = ae ∙ ap (λ (x : Command). answerOf m (x .panel) (x .lines)) ke
-
-    pub gave-is : (n z : ℕ) (h : Held) (ws rs : List ℕ) → a ≡ answer.Done n z → h ≡ next o n
-        → ws ≡ after m (k .panel) (k .lines) .words → rs ≡ after m (k .panel) (k .lines) .responses
-        → (stepped.Gave k n h ≡ gave m (Holds o))
-        × ((ws ≡ pulsed m (command o .panel) (command o .lines) .words) × (rs ≡ pulsed m (command o .panel) (command o .lines) .responses))
-    gave-is n z h ws rs d he we re =
-        let t = sym d ∙ same ∙ answered in
-        let c : n ≡ countOf m (command o .panel) (command o .lines) = cc in (
-          ap (λ (x : Held). stepped.Gave k n x) he ∙ ap₂ (λ (x : Command) (y : ℕ). stepped.Gave x y (next o y)) ke c,
-          (
-            we ∙ ap (λ (x : Command). after m (x .panel) (x .lines) .words) ke ∙ ap (λ (x : Machine). x .words) changed,
-            re ∙ ap (λ (x : Command). after m (x .panel) (x .lines) .responses) ke ∙ ap (λ (x : Machine). x .responses) changed,
-          ),
-        )
-
-    pub never-refused : (r : Refusal) → a ≡ answer.Refused r → ⊥
-    never-refused r d =
-        let t = sym d ∙ same ∙ answered in let z : _≡_ {A = ℕ} 0 1 = cc in omega arith
+-- the command k that was given, the count and what stands after
+module _ (m : Machine) (o : Job) (k : Command) (ke : k ≡ command o) where
+  pub gave-is : (n : ℕ) (h : Held) (ws rs : List ℕ) → n ≡ countOf m (k .panel) (k .lines) → h ≡ next o n
+      → ws ≡ pulsed m (k .panel) (k .lines) .words → rs ≡ pulsed m (k .panel) (k .lines) .responses
+      → (stepped.Gave k n h ≡ gave m (Holds o))
+      × ((ws ≡ pulsed m (command o .panel) (command o .lines) .words) × (rs ≡ pulsed m (command o .panel) (command o .lines) .responses))
+  gave-is n h ws rs c he we re = (
+    ap (λ (x : Held). stepped.Gave k n x) he
+        ∙ ap (λ (y : ℕ). stepped.Gave k y (next o y)) c
+        ∙ ap (λ (x : Command). stepped.Gave x (countOf m (x .panel) (x .lines)) (next o (countOf m (x .panel) (x .lines)))) ke,
+    (
+      we ∙ ap (λ (x : Command). pulsed m (x .panel) (x .lines) .words) ke,
+      re ∙ ap (λ (x : Command). pulsed m (x .panel) (x .lines) .responses) ke,
+    ),
+  )
 
 -- ---- the whole step
 

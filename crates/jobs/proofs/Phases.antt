@@ -4,10 +4,11 @@ use mathlib.Core.Path.{_≡_, _∙_}
 use native.Mathlib.Omega.{arith}
 use borrow.Author.Tests.{eq-eqb, ne-eqb}
 use lib.Pow.{shl-exact}
+use Rattle.machine.specs.declared.ResponseBit.{ResponseBit}
 use Rattle.job_plans.specs.declared.Span.{Span}
 use Rattle.job_plans.specs.declared.Job.{Job}
 use Rattle.job_plans.specs.Fields.{kindOf}
-use Rattle.job_plans.specs.Commands.{opening, trial, second, command, plus, multiaddLine}
+use Rattle.job_plans.specs.Commands.{opening, trial, second, command, order, plus, multiaddLine}
 use Rattle.job_plans.proofs.ByKind.{picked, passed}
 use Rattle.job_plans.proofs.Shifts.{one-shifted, run}
 
@@ -24,21 +25,8 @@ unfolding command
 at-second o h g = passed _ _ _ (ne-eqb (o .phase) 1 g) ∙ passed _ _ _ (ne-eqb (o .phase) 0 h)
 
 -- an add's registers, shifted
-pub plus-is : (y u m v : ℕ) (s : Span) → 0 < s .width → s .low .0 + s .width ≤ 64 → v < 2 ^ s .width → u ≡ 2 ^ y → m ≡ 2 ^ s .width - 1
-    → record {
-      panel = record {
-        comp = v * 2 ^ s .low .0 % 2 ^ 64;
-        sdr = 1 * 2 ^ (s .low .0 + s .width - 1) % 2 ^ 64;
-        sc1 = 0;
-        sc2 = 0;
-        mor = m * 2 ^ s .low .0 % 2 ^ 64;
-        key = u;
-        care = u;
-        target = 0;
-        address = record { 0 = 0 };
-      };
-      lines = multiaddLine;
-    }
+pub plus-is : (y : ResponseBit) (u m v : ℕ) (s : Span) → 0 < s .width → s .low .0 + s .width ≤ 64 → v < 2 ^ s .width → u ≡ 2 ^ y .0 → m ≡ 2 ^ s .width - 1
+    → order multiaddLine (v * 2 ^ s .low .0 % 2 ^ 64) (1 * 2 ^ (s .low .0 + s .width - 1) % 2 ^ 64) 0 (m * 2 ^ s .low .0 % 2 ^ 64) u u 0
     ≡ plus y s v
 plus-is y u m v s h g l e d =
     rw (e, d, shl-exact (s .width) (s .low .0) 64 l (omega arith), one-shifted (s .low .0 + s .width - 1) 64 (omega arith), run (s .low .0) (s .width) g)

@@ -14,6 +14,7 @@ use Rattle.laws.specs.Bits.{bit, pick}
 use Rattle.laws.specs.Lists.{all}
 use Rattle.laws.proofs.Bits.{every-all, bit-none}
 use Rattle.machine.specs.declared.Panel.{Panel}
+use Rattle.machine.specs.declared.ResponseBit.{ResponseBit}
 use Rattle.machine.specs.declared.Check.the-variants.{Passed}
 use Rattle.machine.specs.Machine.{Machine, Syllable, syllables}
 use Rattle.machine.specs.Search.{code, orExact, oneCode, codeAt}
@@ -22,7 +23,7 @@ use Rattle.job_plans.specs.declared.Span.{Span}
 use Rattle.job_plans.specs.declared.Job.{Job}
 use Rattle.job_plans.specs.declared.Command.{Command}
 use Rattle.job_plans.specs.Fields.{Kind, greatest, smallest, scaledAdd, product, unknown, kindOf}
-use Rattle.job_plans.specs.Places.{badHeld}
+use Rattle.job_plans.specs.Places.{noBit, heldCheck}
 use Rattle.job_plans.specs.Commands.{look, plus, trial, second, bitOf, command}
 use Rattle.job_plans.proofs.Fair.{Fair, fair, room-for, scaled-sum, product-sum}
 
@@ -54,7 +55,7 @@ one-code p e y =
 
 -- ---- the two forms
 
-look-taken : (n key care t mask comp : ℕ) → mask < 2 ^ n → comp < 2 ^ n → Taken n (look key care t mask comp)
+look-taken : (n key care : ℕ) (t : ResponseBit) (mask comp : ℕ) → mask < 2 ^ n → comp < 2 ^ n → Taken n (look key care t mask comp)
 unfolding badPanel badCodes badLines badAddress
 look-taken n key care t mask comp h g =
     record {
@@ -64,7 +65,7 @@ look-taken n key care t mask comp h g =
       address = λ m. refl;
     }
 
-plus-taken : (n y : ℕ) (s : Span) (v : ℕ) → 0 < s .width → s .low .0 + s .width ≤ n → v < 2 ^ s .width → Taken n (plus y s v)
+plus-taken : (n : ℕ) (y : ResponseBit) (s : Span) (v : ℕ) → 0 < s .width → s .low .0 + s .width ≤ n → v < 2 ^ s .width → Taken n (plus y s v)
 unfolding badPanel badCodes badLines badAddress
 plus-taken n y s v h g l =
     let e : s .width + s .low .0 ≤ n = omega arith in
@@ -81,7 +82,7 @@ plus-taken n y s v h g l =
 -- ---- a job's command
 
 module _ (n : ℕ) (o : Job) where
-  quiet : (key care t : ℕ) → Taken n (look key care t 0 0)
+  quiet : (key care : ℕ) (t : ResponseBit) → Taken n (look key care t 0 0)
   quiet key care t = look-taken n key care t 0 0 (pow-pos n) (pow-pos n)
 
   abbrev a-bit : ℕ
@@ -91,36 +92,36 @@ module _ (n : ℕ) (o : Job) where
   b-bit = bitOf (o .b) (o .j)
 
   trial-taken : (k : Kind) → Fair n o k → Taken n (trial k o)
-  trial-taken greatest f = let h = pow-lt (room-for n o greatest f .a) in look-taken n (2 ^ o .x) (2 ^ o .x) (o .y) a-bit a-bit h h
-  trial-taken smallest f = look-taken n (2 ^ o .x) (2 ^ o .x) (o .y) a-bit 0 (pow-lt (room-for n o smallest f .a)) (pow-pos n)
+  trial-taken greatest f = let h = pow-lt (room-for n o greatest f .a) in look-taken n (2 ^ o .x .0) (2 ^ o .x .0) (o .y) a-bit a-bit h h
+  trial-taken smallest f = look-taken n (2 ^ o .x .0) (2 ^ o .x .0) (o .y) a-bit 0 (pow-lt (room-for n o smallest f .a)) (pow-pos n)
   trial-taken scaledAdd f = let h = pow-lt (room-for n o scaledAdd f .a) in look-taken n (o .key) (o .care) (o .y) a-bit a-bit h h
   trial-taken product f =
       let r = room-for n o product f in
       let h = or-lt n a-bit b-bit (pow-lt (r .a)) (pow-lt (r .b)) in
       look-taken n (o .key) (o .care) (o .y) (bitOr a-bit b-bit) (bitOr a-bit b-bit) h h
-  trial-taken unknown f = quiet 0 0 0
+  trial-taken unknown f = quiet 0 0 noBit
 
   second-taken : (k : Kind) → Fair n o k → Taken n (second k o)
-  second-taken greatest f = quiet (2 ^ o .y) (2 ^ o .y) (o .x)
-  second-taken smallest f = quiet (2 ^ o .y) (2 ^ o .y) (o .x)
+  second-taken greatest f = quiet (2 ^ o .y .0) (2 ^ o .y .0) (o .x)
+  second-taken smallest f = quiet (2 ^ o .y .0) (2 ^ o .y .0) (o .x)
   second-taken scaledAdd f =
       let s = scaled-sum n o f in
       plus-taken n (o .y) (o .p) (o .c * 2 ^ o .i % 2 ^ o .p .width) (s .some) (s .fits) (mod-lt _ (pow-pos (o .p .width)))
   second-taken product f = let s = product-sum n o f in plus-taken n (o .y) (o .p) (2 ^ (o .i + o .j)) (s .some) (s .fits) (pow-lt (s .sum))
-  second-taken unknown f = quiet 0 0 0
+  second-taken unknown f = quiet 0 0 noBit
 
   either : (b : Bool) (x y : Command) → Taken n x → Taken n y → Taken n (pick b x y)
   either true x y h g = h
   either false x y h g = g
 
-  pub taken : badHeld n o ≡ false → Taken n (command o)
+  pub taken : heldCheck n o ≡ Passed → Taken n (command o)
   unfolding command
   taken h =
       let f = fair n o h in
       either (eqb (o .phase) 0) _ _ (quiet (o .key) (o .care) (o .x))
       (either (eqb (o .phase) 1) _ _ (trial-taken (kindOf (o .kind)) f) (second-taken (kindOf (o .kind)) f))
 
-pub passes : (m : Machine) (o : Job) → machineCheck m ≡ Passed → badHeld (m .width) o ≡ false → pulseCheck m (command o .panel) (command o .lines) ≡ Passed
+pub passes : (m : Machine) (o : Job) → machineCheck m ≡ Passed → heldCheck (m .width) o ≡ Passed → pulseCheck m (command o .panel) (command o .lines) ≡ Passed
 unfolding pulseCheck
 passes m o h g =
     let t = taken (m .width) o g in rw (h, t .panel, t .codes, t .lines, t .address (length (m .words)))

@@ -1,7 +1,6 @@
 -- Document 01, 'Jobs': what start and step answer, and the machine after a step.
 -- "job start, job step and show for 1 to 3 and 8"
-use Prim.Native.Nat.{ℕ}
-use mathlib.Core.Bool.{Bool, true, false, _||_}
+use mathlib.Core.Bool.{Bool, true, false}
 use Rattle.machine.specs.declared.Check.{Check}
 use Rattle.machine.specs.declared.Refusal.the-variants.{Unfit}
 use Rattle.machine.specs.Machine.{Machine}
@@ -10,14 +9,12 @@ use Rattle.machine.specs.Refusals.{_else_, refuse, machineCheck, answerBy}
 use Rattle.job_plans.specs.declared.Job.{Job}
 use Rattle.job_plans.specs.declared.Held.{Held}
 use Rattle.job_plans.specs.declared.Held.the-variants.{Nothing, Holds}
-use Rattle.job_plans.specs.declared.Command.{Command}
 use Rattle.jobs.specs.declared.Started.{Started}
 use Rattle.jobs.specs.declared.Started.the-variants as started
 use Rattle.jobs.specs.declared.Stepped.{Stepped}
 use Rattle.jobs.specs.declared.Stepped.the-variants as stepped
-use Rattle.job_plans.specs.Fields.{badUsed}
-use Rattle.job_plans.specs.Places.{first, next}
-pub use Rattle.job_plans.specs.Places.{badStep}
+use Rattle.job_plans.specs.Fields.{usedCheck}
+use Rattle.job_plans.specs.Places.{noneHeld, first, next}
 unfoldable pub use Rattle.job_plans.specs.Places.{stepCheck}
 use Rattle.job_plans.specs.Commands.{command}
 
@@ -27,9 +24,13 @@ abbrev pub isHeld : Held → Bool
 isHeld Nothing = false
 isHeld (Holds o) = true
 
--- "a start while a job is held"; a start judges the used fields of the job offered
+-- "a start while a job is held"
+abbrev pub freeCheck : Held → Check
+freeCheck h = refuse Unfit (isHeld h)
+
+-- a start judges the used fields of the job offered
 unfoldable pub startCheck : Machine → Held → Job → Check
-startCheck m h o = machineCheck m else refuse Unfit (isHeld h || badUsed (m .width) o)
+startCheck m h o = machineCheck m else usedCheck (m .width) o else freeCheck h
 
 unfoldable pub startOf : Machine → Held → Job → Started
 startOf m h o = answerBy (startCheck m h o) started.Refused (started.Holds (first o))
@@ -38,7 +39,7 @@ startOf m h o = answerBy (startCheck m h o) started.Refused (started.Holds (firs
 
 -- "A job step answers the command it gave", the count and the job held afterwards
 abbrev pub gave : Machine → Held → Stepped
-gave m Nothing = stepped.Refused Unfit
+gave m Nothing = stepped.Refused noneHeld
 gave m (Holds o) =
     let k = command o in
     let c = countOf m (k .panel) (k .lines) in

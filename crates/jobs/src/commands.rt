@@ -2,30 +2,32 @@
 use job_plans::Command;
 use job_plans::Job;
 use job_plans::Span;
-use job_plans::low_bits;
 use machine::Lines;
 use machine::Panel;
 use machine::Response;
-use machine::WordSlice;
+use machine::ResponseBit;
+use machine::low_bits;
 ghost use mathlib.Core.Path.{_≡_};
-ghost use mathlib.Core.Bool.{false};
 ghost use Prim.Native.Nat.{_+_, _-_, _*_, _%_, _^_, _≤_, _<_};
+ghost use Rattle.machine.specs.declared.Check.the-variants as check;
+ghost use Rattle.machine.specs.Machine.{responseBits};
 ghost use Rattle.job_plans.specs.Fields.{kindOf};
-ghost use Rattle.job_plans.specs.Places.{badHeld};
+ghost use Rattle.job_plans.specs.Places.{heldCheck};
 ghost use Rattle.job_plans.specs.Commands as commands;
 
 // ---- registers
 
 // Response bit x alone.
-pub(crate) fn response_bit(x: u8) -> Response
-    requires { ⌜ x < 8 ⌝ }
-    ensures { λ r. ⌜ r ≡ 2 ^ x ⌝ }
+fn response_bit(x: ResponseBit) -> Response
+    requires { ⌜ x .0 < responseBits ⌝ }
+    ensures { λ r. ⌜ r ≡ 2 ^ x .0 ⌝ }
 {
-    1u8 << x
+    let one: Response = 1;
+    one << x.0
 }
 
 // Bit i of a syllable, at its place in the word.
-pub(crate) fn bit_of(s: Span, i: u8) -> u64
+fn bit_of(s: Span, i: u8) -> u64
     requires { ⌜ s .low .0 + i < 64 ⌝ }
     ensures { λ r. ⌜ r ≡ commands.bitOf s i ⌝ }
 {
@@ -33,32 +35,28 @@ pub(crate) fn bit_of(s: Span, i: u8) -> u64
 }
 
 // "c·2^i mod 2^p"
-pub(crate) fn scaled(c: u64, i: u8, p: u8) -> u64
+fn scaled(c: u64, i: u8, p: u8) -> u64
     requires { ⌜ (i < p) × (p ≤ 64) ⌝ }
     ensures { λ r. ⌜ r ≡ c * 2 ^ i % 2 ^ p ⌝ }
 {
-    (c << i) & low_bits(p)
+    (c << i) & low_bits(p as u32)
 }
 
 // ---- the two forms of a command
 
 // Search the bits of the mask exact as in comp, under (key, care), target bit t.
-pub(crate) fn look(key: Response, care: Response, t: u8, mask: u64, comp: u64) -> Command
-    requires { ⌜ t < 8 ⌝ }
+fn look(key: Response, care: Response, t: ResponseBit, mask: u64, comp: u64) -> Command
+    requires { ⌜ t .0 < responseBits ⌝ }
     ensures { λ r. ⌜ r ≡ commands.look key care t mask comp ⌝ }
 {
+    let mut panel = Panel::blank();
+    panel.comp = comp;
+    panel.sc2 = mask;
+    panel.key = key;
+    panel.care = care;
+    panel.target = response_bit(t);
     Command {
-        panel: Panel {
-            comp,
-            sdr: 0,
-            sc1: 0,
-            sc2: mask,
-            mor: 0,
-            key,
-            care,
-            target: response_bit(t),
-            address: WordSlice(0),
-        },
+        panel,
         lines: Lines {
             search: true,
             read: false,
@@ -72,26 +70,24 @@ pub(crate) fn look(key: Response, care: Response, t: u8, mask: u64, comp: u64) -
 }
 
 // "Adds set MOR to P's bits and SDR to P's top bit."
-pub(crate) fn plus(y: u8, s: Span, v: u64) -> Command
-    requires { ⌜ y < 8 ⌝ }
+fn plus(y: ResponseBit, s: Span, v: u64) -> Command
+    requires { ⌜ y .0 < responseBits ⌝ }
     requires { ⌜ (0 < s .width) × (s .low .0 + s .width ≤ 64) × (v < 2 ^ s .width) ⌝ }
     ensures { λ r. ⌜ r ≡ commands.plus y s v ⌝ }
 {
     let low = s.low.0;
     let under = response_bit(y);
-    let run = low_bits(s.width) << low;
+    let comp = v << low;
+    let top = 1u64 << (low + s.width - 1);
+    let run = low_bits(s.width as u32) << low;
+    let mut panel = Panel::blank();
+    panel.comp = comp;
+    panel.sdr = top;
+    panel.mor = run;
+    panel.key = under;
+    panel.care = under;
     Command {
-        panel: Panel {
-            comp: v << low,
-            sdr: 1u64 << (low + s.width - 1),
-            sc1: 0,
-            sc2: 0,
-            mor: run,
-            key: under,
-            care: under,
-            target: 0,
-            address: WordSlice(0),
-        },
+        panel,
         lines: Lines {
             search: false,
             read: false,
@@ -107,9 +103,9 @@ pub(crate) fn plus(y: u8, s: Span, v: u64) -> Command
 // ---- the command at a place
 
 // The trial search.
-pub(crate) fn trial(n: u32, o: Job) -> Command
+fn trial(n: u32, o: Job) -> Command
     requires { ⌜ n ≤ 64 ⌝ }
-    requires { ⌜ badHeld n o ≡ false ⌝ }
+    requires { ⌜ heldCheck n o ≡ check.Passed ⌝ }
     ensures { λ r. ⌜ r ≡ commands.trial (kindOf (o .kind)) o ⌝ }
 {
     let kind = o.kind;
@@ -132,14 +128,14 @@ pub(crate) fn trial(n: u32, o: Job) -> Command
             let both = bit_of(o.a, o.i) | bit_of(o.b, o.j);
             look(o.key, o.care, o.y, both, both)
         }
-        _ => look(0, 0, 0, 0, 0),
+        _ => look(0, 0, ResponseBit(0), 0, 0),
     }
 }
 
 // The pulse after it.
-pub(crate) fn second(n: u32, o: Job) -> Command
+fn second(n: u32, o: Job) -> Command
     requires { ⌜ n ≤ 64 ⌝ }
-    requires { ⌜ badHeld n o ≡ false ⌝ }
+    requires { ⌜ heldCheck n o ≡ check.Passed ⌝ }
     ensures { λ r. ⌜ r ≡ commands.second (kindOf (o .kind)) o ⌝ }
 {
     let kind = o.kind;
@@ -154,13 +150,13 @@ pub(crate) fn second(n: u32, o: Job) -> Command
         }
         3 => plus(o.y, o.p, scaled(o.c, o.i, o.p.width)),
         4 => plus(o.y, o.p, scaled(1, o.i + o.j, o.p.width)),
-        _ => look(0, 0, 0, 0, 0),
+        _ => look(0, 0, ResponseBit(0), 0, 0),
     }
 }
 
 pub(crate) fn command_of(n: u32, o: Job) -> Command
     requires { ⌜ n ≤ 64 ⌝ }
-    requires { ⌜ badHeld n o ≡ false ⌝ }
+    requires { ⌜ heldCheck n o ≡ check.Passed ⌝ }
     ensures { λ r. ⌜ r ≡ commands.command o ⌝ }
 {
     let phase = o.phase;

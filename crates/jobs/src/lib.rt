@@ -1,31 +1,28 @@
-// Jobs: the calls start and step, and the command that a step gives. What a job is stands in `plans`, its places in
-// `places` and its number of pulses in `tally`; their names are passed on here.
+// Jobs: the calls start and step, and the command that a step gives. What a job is stands in `job_plans`, its places in
+// `job_places` and its number of pulses in `job_tally`, whose call is passed on here.
 // Document 01: 'Jobs' and number 8.
 mod commands;
 pub mod totals;
 
-pub use job_places::bad_held;
 use job_places::check_step;
 use job_places::first_of;
 use job_places::next_of;
-pub use job_plans::Command;
-pub use job_plans::Held;
-pub use job_plans::Job;
-pub use job_plans::Span;
-use job_plans::fields::bad_used;
-pub use job_tally::Total;
-use machine::Answer;
+use job_places::none_held;
+use job_plans::Command;
+use job_plans::Held;
+use job_plans::Job;
+use job_plans::fields::check_used;
 use machine::Check;
 use machine::Refusal;
 use machine::Response;
+use machine::in_order;
+use machine::refuse;
 ghost use mathlib.Core.Path.{_≡_};
-ghost use mathlib.Core.Bool.{_||_};
 ghost use Rattle.machine.specs.declared.Check.the-variants as check;
 ghost use Rattle.machine.specs.Machine.{machine};
 ghost use Rattle.machine.specs.Pulse.{pulsed};
-ghost use Rattle.job_plans.specs.Fields.{badUsed};
 ghost use Rattle.job_plans.specs.Commands.{command};
-ghost use Rattle.jobs.specs.Calls.{isHeld, startCheck, startOf, stepCheck, gave, stepOf, afterStep};
+ghost use Rattle.jobs.specs.Calls.{isHeld, freeCheck, startCheck, startOf, stepCheck, gave, stepOf, afterStep};
 
 // What a start answers.
 pub enum Started {
@@ -45,27 +42,29 @@ pub enum Stepped {
 
 // ---- start: "Starting a job sets its first place, and its unused fields to 0."
 
-// "a start while a job is held"; otherwise the used fields of the job offered.
-fn bad_start(width: u32, held: Held, offered: Job) -> bool
-    ensures { λ r. ⌜ r ≡ (isHeld held || badUsed width offered) ⌝ }
+// "a start while a job is held"
+fn is_held(held: Held) -> bool
+    ensures { λ r. ⌜ r ≡ isHeld held ⌝ }
 {
     match held {
-        Held::Nothing => bad_used(width, offered),
+        Held::Nothing => false,
         Held::Holds(_) => true,
     }
+}
+
+fn check_free(held: Held) -> Check
+    ensures { λ r. ⌜ r ≡ freeCheck held ⌝ }
+{
+    refuse(Refusal::Unfit, is_held(held))
 }
 
 fn check_start(words: &[u64], responses: &[Response], width: u32, held: Held, offered: Job) -> Check
     ensures { λ r. ⌜ r ≡ startCheck (machine width (now (words .entry)) (now (responses .entry))) held offered ⌝ }
 {
-    let first = machine::check_machine(words, responses, width);
-    if let Check::Refused(why) = first {
-        return Check::Refused(why);
-    }
-    if bad_start(width, held, offered) {
-        return Check::Refused(Refusal::Unfit);
-    }
-    Check::Passed
+    in_order(
+        machine::check_machine(words, responses, width),
+        in_order(check_used(width, offered), check_free(held)),
+    )
 }
 
 pub fn start(words: &[u64], responses: &[Response], width: u32, held: Held, offered: Job) -> Started
@@ -79,7 +78,7 @@ pub fn start(words: &[u64], responses: &[Response], width: u32, held: Held, offe
 
 // ---- step: "A job step answers the command it gave, and the machine after it is that command's pulse."
 
-// The pulse of a job's command, on a machine and a job that are not turned down; so the pulse is not either.
+// The pulse of a job's command, on a machine and a job that are not turned down; so the pulse is not either, and is not judged again.
 fn give(words: &mut [u64], responses: &mut [Response], width: u32, o: Job) -> Stepped
     requires { ⌜ stepCheck (machine width (now words) (now responses)) (Held.Holds o) ≡ check.Passed ⌝ }
     ensures { λ r. ⌜ r ≡ gave (machine width (now (words .entry)) (now (responses .entry))) (Held.Holds o) ⌝ }
@@ -87,14 +86,11 @@ fn give(words: &mut [u64], responses: &mut [Response], width: u32, o: Job) -> St
     ensures { λ r. ⌜ now (responses .exit) ≡ pulsed (machine width (now (words .entry)) (now (responses .entry))) (command o .panel) (command o .lines) .responses ⌝ }
 {
     let command = commands::command_of(width, o);
-    let answer = wide::pulse(words, responses, width, command.panel, command.lines);
-    match answer {
-        Answer::Done { count, read: _ } => Stepped::Gave {
-            command,
-            count,
-            held: next_of(o, count),
-        },
-        Answer::Refused(why) => Stepped::Refused(why),
+    let count = wide::give(words, responses, width, command.panel, command.lines);
+    Stepped::Gave {
+        command,
+        count,
+        held: next_of(o, count),
     }
 }
 
@@ -107,7 +103,7 @@ pub fn step(words: &mut [u64], responses: &mut [Response], width: u32, held: Hel
         return Stepped::Refused(why);
     }
     match held {
-        Held::Nothing => Stepped::Refused(Refusal::Unfit),
+        Held::Nothing => Stepped::Refused(none_held()),
         Held::Holds(o) => give(words, responses, width, o),
     }
 }

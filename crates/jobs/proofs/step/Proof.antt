@@ -32,6 +32,9 @@ enum-told c = search needs
 enum-told-2 : tie.Need-enum-told-2
 enum-told-2 c = search needs
 
+none-held-requires : tie.Need-none-held-requires
+none-held-requires c κs = search needs
+
 enum-known-held : tie.Need-enum-known-held
 enum-known-held c = search needs
 
@@ -49,10 +52,10 @@ same-length-4 c = search needs
 
 returns-2 : tie.Need-returns-2
 returns-2 c =
-    let t = c .before .before .before .before .before .before .before .before .before in
+    let t = c .before .before .before .before .before .before .before .before .before .before in
     let a = t .args in
     let m = machine (a .width) (a .words .now) (a .responses .now) in
-    absurd (standing.step-none m (a .held) (sym (c .before .before .before .before .check-step .ensures) ∙ c .before .before .enum-told .given .1) (c .enum-told2 .given .1))
+    absurd (standing.step-none m (a .held) (sym (c .before .before .before .before .before .check-step .ensures) ∙ c .before .before .before .enum-told .given .1) (c .before .enum-told2 .given .1))
 
 same-length-5 : tie.Need-same-length-5
 same-length-5 c = search needs
@@ -79,6 +82,7 @@ step-spec =
     returns
     enum-told
     enum-told-2
+    none-held-requires
     enum-known-held
     give-requires
     same-length-3

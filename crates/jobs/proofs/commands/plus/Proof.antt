@@ -6,6 +6,27 @@ use Rattle.jobs.proofs.commands.plus.Tie as tie
 response-bit-requires : tie.Need-response-bit-requires
 response-bit-requires c κs = search needs
 
+cast-comp : tie.Need-cast-comp
+cast-comp c = search needs
+
+shl-comp : tie.Need-shl-comp
+shl-comp c = search needs
+
+add-top : tie.Need-add-top
+add-top c = search needs
+
+sub-top : tie.Need-sub-top
+sub-top c = search needs
+
+cast-top : tie.Need-cast-top
+cast-top c = search needs
+
+shl-top : tie.Need-shl-top
+shl-top c = search needs
+
+cast-low-bits : tie.Need-cast-low-bits
+cast-low-bits c = search needs
+
 low-bits-requires : tie.Need-low-bits-requires
 low-bits-requires c κs = search needs
 
@@ -15,42 +36,31 @@ cast-run c = search needs
 shl-run : tie.Need-shl-run
 shl-run c = search needs
 
-cast-t7 : tie.Need-cast-t7
-cast-t7 c = search needs
-
-shl-t8 : tie.Need-shl-t8
-shl-t8 c = search needs
-
-add-t9 : tie.Need-add-t9
-add-t9 c = search needs
-
-sub-t10 : tie.Need-sub-t10
-sub-t10 c = search needs
-
-cast-t11 : tie.Need-cast-t11
-cast-t11 c = search needs
-
-shl-t12 : tie.Need-shl-t12
-shl-t12 c = search needs
+blank-requires : tie.Need-blank-requires
+blank-requires c κs = search needs
 
 returns : tie.Need-returns
 returns c =
-    let t = c .before .before .before in
-    phases.plus-is (t .args .y) (c .before .before .response-bit .result) (c .before .low-bits .result) (t .args .v) (t .args .s) (t .pre .1 .0) (t .pre .1 .1) (t .pre .1 .2)
-    (c .before .before .response-bit .ensures) (c .before .low-bits .ensures)
+    let t = c .before .before .before .before .before in
+    let u = c .before .before .before .before .response-bit in
+    let l = c .before .low-bits in
+    rw (c .blank .ensures)
+    (phases.plus-is (t .args .y) (u .result) (l .result) (t .args .v) (t .args .s) (t .pre .1 .0) (t .pre .1 .1) (t .pre .1 .2) (u .ensures) (l .ensures))
 
 pub plus-spec : {M : Type 1} → statement M
 plus-spec =
     tie.close
     (tie.spec
     response-bit-requires
+    cast-comp
+    shl-comp
+    add-top
+    sub-top
+    cast-top
+    shl-top
+    cast-low-bits
     low-bits-requires
     cast-run
     shl-run
-    cast-t7
-    shl-t8
-    add-t9
-    sub-t10
-    cast-t11
-    shl-t12
+    blank-requires
     returns)

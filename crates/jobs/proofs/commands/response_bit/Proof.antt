@@ -7,7 +7,7 @@ shl-result : tie.Need-shl-result
 shl-result c = search needs
 
 returns : tie.Need-returns
-returns c = shifts.one-shifted (c .args .x) 8 (c .pre)
+returns c = shifts.one-shifted (c .before .args .x .0) 8 (c .before .pre)
 
 pub response-bit-spec : {M : Type 1} → statement M
 response-bit-spec = tie.close (tie.spec shl-result returns)
