@@ -1,21 +1,22 @@
 -- Places: every place is within the bytes, and a proper prefix of sound bytes is refused at the field that is cut.
 -- "The place in 9 is the offset of the first field, read in order, that is cut off or breaks a rule"
 use Prim.Native.Nat.{ℕ, zero, suc, _+_, _*_, _-_, _≤_, _<_}
-use mathlib.Core.Path.{_≡_, refl, sym, ap, _∙_}
+use mathlib.Core.Path.{_≡_, refl, ap, _∙_}
 use mathlib.Core.Bool.{Bool, true, false}
 use mathlib.Core.List.{List, [], _∷_, _++_, append-assoc}
 use native.Mathlib.Nat.{zero-add}
 use native.Mathlib.Omega.{arith}
 use lib.Dec.{ltb, eqb}
 use lib.ListN.{length, take, drop, replicate, length-drop}
-use lib.Seq.{take-take, getD-take, length-take-le}
+use lib.Seq.{take-take, length-take-le}
 use borrow.Author.Tests.{lt-ltb, le-ltb, ltb-true, ltb-false, eqb-true}
 use Rattle.laws.specs.Bits.{pick}
 use Rattle.image_layout.specs.declared.Scanned.the-variants.{Sound, Broken}
 use Rattle.jobs.specs.Runs.{State}
-use Rattle.image_layout.specs.Format.{value, imageOf}
+use Rattle.image_layout.specs.Sizes.{countSize, widthSize, itemsAt, widthAt, wordsAt, jobsAt}
+use Rattle.image_layout.specs.Format.{value, numberAt, imageOf}
 use Rattle.image_layout.specs.Reading.{Field, scan, countIs, wordCount, widthByte, wordField, responseField, jobCount, jobField, widthIn, wordsIn, jobsIn, fieldsOf, scanned}
-use Rattle.image_layout.proofs.Bytes.{drop-take}
+use Rattle.image_layout.proofs.Format.{drop-take, before-cut}
 use Rattle.image.proofs.RoundTrip.{image-sound}
 use Rattle.image.specs.Calls.{Stored}
 use Rattle.image_layout.specs.Reading.{startOf}
@@ -102,57 +103,48 @@ first3 = countIs 1 ∷ widthByte ∷ wordCount ∷ []
 abbrev first7 : ℕ → ℕ → List Field
 first7 w n = countIs 1 ∷ widthByte ∷ wordCount ∷ (replicate n (wordField w) ++ (countIs n ∷ (replicate n responseField ++ (jobCount ∷ []))))
 
-sizes7 : (w n : ℕ) → sizes (first7 w n) ≡ 17 + 9 * n
+sizes7 : (w n : ℕ) → sizes (first7 w n) ≡ itemsAt (jobsAt n)
 sizes7 w n = omega (arith, sizes-run n (wordField w) (countIs n ∷ (replicate n responseField ++ (jobCount ∷ []))), sizes-run n responseField (jobCount ∷ []))
 
 fields7 : (b : List ℕ) → fieldsOf b ≡ first7 (widthIn b) (wordsIn b) ++ replicate (jobsIn b) (jobField (widthIn b))
 unfolding fieldsOf
 fields7 b = simp append-assoc
 
--- a number that lies before the cut
-kept-add : (p j n : ℕ) (b : List ℕ) → n ≤ j → take n (drop p (take (p + j) b)) ≡ take n (drop p b)
-kept-add p j n b h = ap (take n) (drop-take p j b) ∙ take-take n j (drop p b) h
-
-kept : (k p n : ℕ) (b : List ℕ) → p + n ≤ k → take n (drop p (take k b)) ≡ take n (drop p b)
-kept k p n b h =
-    let e : p + (k - p) ≡ k = omega arith in
-    ap (λ (q : ℕ). take n (drop p (take q b))) (sym e) ∙ kept-add p (k - p) n b (omega arith)
-
 -- the fields that the prefix says, as far as it reaches, are the fields of the whole
 abbrev Alike : ℕ → List ℕ → Type 0
 Alike k b = scan (fieldsOf (take k b)) 0 (take k b) ≡ scan (fieldsOf b) 0 (take k b)
 
-early : (k : ℕ) (b : List ℕ) → k < length b → k < 9 → Alike k b
+early : (k : ℕ) (b : List ℕ) → k < length b → k < itemsAt wordsAt → Alike k b
 unfolding fieldsOf
 early k b l h = let n : length (take k b) ≡ k = length-take-le k b (omega arith) in beyond first3 _ _ 0 (take k b) (omega (arith, n))
 
-late : (k : ℕ) (b : List ℕ) → k < length b → 9 ≤ k → Alike k b
-late k b l m = go (ltb k (17 + 9 * wordsIn b)) refl
+late : (k : ℕ) (b : List ℕ) → k < length b → itemsAt wordsAt ≤ k → Alike k b
+late k b l m = go (ltb k (itemsAt (jobsAt (wordsIn b)))) refl
   where
     n : length (take k b) ≡ k
     n = length-take-le k b (omega arith)
 
     w : widthIn (take k b) ≡ widthIn b
-    w = getD-take k b 4 0 (omega arith)
+    w = ap value (before-cut k (itemsAt widthAt) widthSize b (omega arith))
 
     c : wordsIn (take k b) ≡ wordsIn b
-    c = ap value (kept k 5 4 b (omega arith))
+    c = ap value (before-cut k wordsAt countSize b (omega arith))
 
-    go : (t : Bool) → ltb k (17 + 9 * wordsIn b) ≡ t → Alike k b
+    go : (t : Bool) → ltb k (itemsAt (jobsAt (wordsIn b))) ≡ t → Alike k b
     go true f =
         rw (fields7 (take k b), fields7 b, w, c)
-        (beyond (first7 (widthIn b) (wordsIn b)) _ _ 0 (take k b) (omega (arith, ltb-true k (17 + 9 * wordsIn b) f, sizes7 (widthIn b) (wordsIn b), n)))
+        (beyond (first7 (widthIn b) (wordsIn b)) _ _ 0 (take k b) (omega (arith, ltb-true k (itemsAt (jobsAt (wordsIn b))) f, sizes7 (widthIn b) (wordsIn b), n)))
     go false f =
-        let j : value (take 4 (drop (13 + 9 * wordsIn b) (take k b))) ≡ jobsIn b =
-        ap value (kept k (13 + 9 * wordsIn b) 4 b (omega (arith, ltb-false k (17 + 9 * wordsIn b) f))) in
+        let j : numberAt countSize (jobsAt (wordsIn b)) (take k b) ≡ jobsIn b =
+        ap value (before-cut k (jobsAt (wordsIn b)) countSize b (omega (arith, ltb-false k (itemsAt (jobsAt (wordsIn b))) f))) in
         rw (fields7 (take k b), fields7 b, w, c, j)
 
 alike : (k : ℕ) (b : List ℕ) → k < length b → Alike k b
-alike k b l = go (ltb k 9) refl
+alike k b l = go (ltb k (itemsAt wordsAt)) refl
   where
-    go : (t : Bool) → ltb k 9 ≡ t → Alike k b
-    go true e = early k b l (ltb-true k 9 e)
-    go false e = late k b l (ltb-false k 9 e)
+    go : (t : Bool) → ltb k (itemsAt wordsAt) ≡ t → Alike k b
+    go true e = early k b l (ltb-true k (itemsAt wordsAt) e)
+    go false e = late k b l (ltb-false k (itemsAt wordsAt) e)
 
 -- of bytes that are sound, a proper prefix is refused at the start of the field that it cuts
 pub cut-off : (k : ℕ) (b : List ℕ) → scanned b ≡ Sound → k < length b → scanned (take k b) ≡ Broken (startOf (fieldsOf b) 0 k)

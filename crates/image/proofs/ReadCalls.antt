@@ -1,27 +1,27 @@
 -- Reading as a whole: its checks in order, and what sound bytes leave.
-use Prim.Native.Nat.{ℕ, _+_, _*_, _≤_}
+use Prim.Native.Nat.{ℕ, _≤_}
 use mathlib.Core.Path.{_≡_, refl, sym, _∙_}
-use mathlib.Core.Bool.{true, false, _||_}
+use mathlib.Core.Bool.{_||_}
 use mathlib.Core.List.{List}
-use lib.Dec.{ltb, eqb}
-use lib.ListN.{length, take, drop}
+use lib.Dec.{ltb}
+use lib.ListN.{length, drop}
 use lib.Seq.{sets}
 use borrow.Author.Tests.{ltb-false}
-use Rattle.laws.specs.Bits.{pick}
 use Rattle.machine.specs.declared.Refusal.{Refusal}
 use Rattle.machine.specs.declared.Refusal.the-variants.{Malformed, NoRoom}
 use Rattle.machine.specs.declared.Check.{Check}
 use Rattle.machine.specs.declared.Check.the-variants.{Passed, Refused}
+use Rattle.machine.specs.Refusals.{refuse}
 use Rattle.machine.proofs.Refusals.{else-passed, not-refused, or-left, or-right}
 use Rattle.job_plans.specs.declared.Held.{Held}
-use Rattle.job_plans.specs.declared.Held.the-variants.{Nothing, Holds}
 use Rattle.image_layout.specs.declared.Scanned.{Scanned}
 use Rattle.image_layout.specs.declared.Scanned.the-variants.{Sound, Broken}
 use Rattle.image.specs.declared.Read.the-variants as read
-use Rattle.image_layout.specs.Format.{value, jobOf}
-use Rattle.image_layout.specs.Reading.{scanned, stateIn, widthIn, wordsIn, heldIn, numbers}
+use Rattle.image_layout.specs.Sizes.{countSize, wordSize, responseSize, recordSize, itemsAt, pastSection, wordsAt, responsesAt, jobsAt}
+use Rattle.image_layout.specs.Format.{numberAt, heldOf}
+use Rattle.image_layout.specs.Reading.{scanned, stateIn, widthIn, wordsIn, records, jobsOf, numbers}
 use Rattle.image.specs.Calls.{refuseBytes, readCheck, readOf, wordsRead, responsesRead}
-use Rattle.image_layout.proofs.Bytes.{length-numbers}
+use Rattle.image_layout.proofs.Reading.{length-numbers}
 use Rattle.image_parts.proofs.Scans.{Long, long}
 
 -- ---- the checks
@@ -30,17 +30,12 @@ pub read-broken : (b : List ℕ) (w r at : ℕ) (k : Scanned) → k ≡ scanned 
 unfolding readCheck
 read-broken b w r at k e h = rw (← e, h)
 
-pub read-short : (b : List ℕ) (w r n : ℕ) (k : Scanned) → k ≡ scanned b → k ≡ Sound → n ≡ wordsIn b → (ltb w n || ltb r n) ≡ true → Refused NoRoom ≡ readCheck b w r
+pub read-sound : (b : List ℕ) (w r n : ℕ) (k : Scanned) (t : Check) → k ≡ scanned b → k ≡ Sound → n ≡ wordsIn b → t ≡ refuse NoRoom (ltb w n || ltb r n)
+    → t ≡ readCheck b w r
 unfolding readCheck
-read-short b w r n k e h f g =
-    let z : (ltb w (wordsIn b) || ltb r (wordsIn b)) ≡ true = rw f at g in
-    rw (← e, h, z)
-
-pub read-passed : (b : List ℕ) (w r n : ℕ) (k : Scanned) → k ≡ scanned b → k ≡ Sound → n ≡ wordsIn b → (ltb w n || ltb r n) ≡ false → Passed ≡ readCheck b w r
-unfolding readCheck
-read-passed b w r n k e h f g =
-    let z : (ltb w (wordsIn b) || ltb r (wordsIn b)) ≡ false = rw f at g in
-    rw (← e, h, z)
+read-sound b w r n k t e h f g =
+    let z : t ≡ refuse NoRoom (ltb w (wordsIn b) || ltb r (wordsIn b)) = rw f at g in
+    rw (← e, h) z
 
 -- ---- the call
 
@@ -70,7 +65,7 @@ fits b w r k e h =
 -- the same, of the count that was read
 pub record Room (b : List ℕ) (n w r : ℕ) : Type 0 where
   pub few : n ≤ 1024
-  pub room : 13 + 9 * n + 4 + 22 * value (take 4 (drop (13 + 9 * n) b)) ≤ length b
+  pub room : pastSection (jobsAt n) recordSize (numberAt countSize (jobsAt n) b) ≤ length b
   pub words : n ≤ w
   pub responses : n ≤ r
 
@@ -86,14 +81,15 @@ read-refused b ws rs k why e h = (rw (← e, h), (rw (← e, h), rw (← e, h)))
 
 pub read-done : (b ws rs ws′ rs′ : List ℕ) (k : Check) (w n : ℕ) (o : Held) → k ≡ readCheck b (length ws) (length rs) → k ≡ Passed
     → w ≡ widthIn b → n ≡ wordsIn b
-    → o ≡ pick (eqb (value (take 4 (drop (13 + 9 * n) b))) 0) Nothing (Holds (jobOf (take 22 (drop (13 + 9 * n + 4) b))))
-    → ws′ ≡ sets ws 0 (numbers 8 n (drop 9 b)) → rs′ ≡ sets rs 0 (numbers 1 n (drop (13 + 8 * n) b))
+    → o ≡ heldOf (records (numberAt countSize (jobsAt n) b) (drop (itemsAt (jobsAt n)) b))
+    → ws′ ≡ sets ws 0 (numbers wordSize n (drop (itemsAt wordsAt) b)) → rs′ ≡ sets rs 0 (numbers responseSize n (drop (itemsAt (responsesAt n)) b))
     → (read.Machine w n o ≡ readOf b (length ws) (length rs)) × ((ws′ ≡ wordsRead b ws rs) × (rs′ ≡ responsesRead b ws rs))
 unfolding readOf wordsRead responsesRead stateIn
 read-done b ws rs ws′ rs′ k w n o e h f g i p q =
-    let l : n ≡ length (numbers 8 (wordsIn b) (drop 9 b)) = g ∙ sym (length-numbers 8 (wordsIn b) (drop 9 b)) in
-    let j : o ≡ heldIn b = rw g at i in
-    let a : read.Machine w n o ≡ read.Machine (widthIn b) (length (numbers 8 (wordsIn b) (drop 9 b))) (heldIn b) = cc in
-    let y : ws′ ≡ sets ws 0 (numbers 8 (wordsIn b) (drop 9 b)) = rw g at p in
-    let z : rs′ ≡ sets rs 0 (numbers 1 (wordsIn b) (drop (13 + 8 * wordsIn b) b)) = rw g at q in
+    let ns = numbers wordSize (wordsIn b) (drop (itemsAt wordsAt) b) in
+    let l : n ≡ length ns = g ∙ sym (length-numbers wordSize (wordsIn b) (drop (itemsAt wordsAt) b)) in
+    let j : o ≡ heldOf (jobsOf b) = rw g at i in
+    let a : read.Machine w n o ≡ read.Machine (widthIn b) (length ns) (heldOf (jobsOf b)) = cc in
+    let y : ws′ ≡ sets ws 0 ns = rw g at p in
+    let z : rs′ ≡ sets rs 0 (numbers responseSize (wordsIn b) (drop (itemsAt (responsesAt (wordsIn b))) b)) = rw g at q in
     (rw (← e, h) a, (rw (← e, h) y, rw (← e, h) z))

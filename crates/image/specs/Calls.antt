@@ -1,20 +1,18 @@
 -- Document 01, 'The image': what writing and reading answer, and what they leave in what is lent.
 -- "writing an image for 1 to 3, 8 and 10; reading one for 9 and 10"
 use mathlib.Core.Path.{_≡_}
-use Prim.Native.Nat.{ℕ, _^_, _<_}
-use mathlib.Core.Bool.{Bool, false, _||_}
-use mathlib.Core.List.{List}
+use Prim.Native.Nat.{ℕ}
+use mathlib.Core.Bool.{_||_}
+use mathlib.Core.List.{List, [], _∷_}
 use lib.Dec.{ltb}
 use lib.ListN.{length}
 use lib.Seq.{sets}
 use Rattle.machine.specs.declared.Check.{Check}
 use Rattle.machine.specs.declared.Check.the-variants as check
-use Rattle.machine.specs.declared.Refusal.the-variants.{Unfit, Malformed, NoRoom}
-use Rattle.machine.specs.Machine.{Machine}
+use Rattle.machine.specs.declared.Refusal.the-variants.{Malformed, NoRoom}
 use Rattle.machine.specs.Refusals.{_else_, refuse, machineCheck, answerBy, changeBy}
-use Rattle.job_plans.specs.declared.Held.{Held}
-use Rattle.job_plans.specs.declared.Held.the-variants.{Nothing, Holds}
-use Rattle.job_plans.specs.Places.{badHeld}
+use Rattle.job_plans.specs.declared.Job.{Job}
+use Rattle.job_plans.specs.Places.{heldCheck}
 use Rattle.jobs.specs.Runs.{State}
 use Rattle.image.specs.declared.Wrote.{Wrote}
 use Rattle.image.specs.declared.Wrote.the-variants as wrote
@@ -22,20 +20,20 @@ use Rattle.image.specs.declared.Read.{Read}
 use Rattle.image.specs.declared.Read.the-variants as read
 use Rattle.image_layout.specs.declared.Scanned.{Scanned}
 use Rattle.image_layout.specs.declared.Scanned.the-variants.{Sound, Broken}
-use Rattle.image_layout.specs.Format.{imageOf, AreBytes}
+use Rattle.image_layout.specs.Format.{heldJobs, imageOf, AreResponses, JobsFit}
 use Rattle.image_layout.specs.Reading.{wordsIn, scanned, stateIn}
 
 -- ---- writing
 
--- 8: the held job as after its start; none is fine
-abbrev pub badJob : ℕ → Held → Bool
-badJob n Nothing = false
-badJob n (Holds o) = badHeld n o
+-- 8: each held job as after its start; none is fine
+abbrev pub jobsCheck : ℕ → List Job → Check
+jobsCheck n [] = check.Passed
+jobsCheck n (o ∷ os) = heldCheck n o else jobsCheck n os
 
 -- 10: "output shorter than the image"
 unfoldable pub writeCheck : State → ℕ → Check
 writeCheck s room =
-    machineCheck (s .machine) else refuse Unfit (badJob (s .machine .width) (s .held)) else refuse NoRoom (ltb room (length (imageOf s)))
+    machineCheck (s .machine) else jobsCheck (s .machine .width) (heldJobs (s .held)) else refuse NoRoom (ltb room (length (imageOf s)))
 
 unfoldable pub writeOf : State → ℕ → Wrote
 writeOf s room = answerBy (writeCheck s room) wrote.Refused (wrote.Length (length (imageOf s)))
@@ -69,14 +67,9 @@ responsesRead bs ws rs = changeBy (readCheck bs (length ws) (length rs)) (sets r
 
 -- ---- words of the theorems
 
--- c is a number of 64 bits
-abbrev pub ConstantFits : Held → Type 0
-ConstantFits Nothing = Unit {0}
-ConstantFits (Holds o) = o .c < 2 ^ 64
-
--- a machine and its job that pass the checks of writing but room; responses are bytes, as their type has it
+-- a machine and its jobs that pass the checks of writing but room; responses and jobs are as their types have them
 pub record Stored (s : State) : Type 0 where
   pub machine : machineCheck (s .machine) ≡ check.Passed
-  pub job : badJob (s .machine .width) (s .held) ≡ false
-  pub responses : AreBytes (s .machine .responses)
-  pub constant : ConstantFits (s .held)
+  pub jobs : jobsCheck (s .machine .width) (heldJobs (s .held)) ≡ check.Passed
+  pub responses : AreResponses (s .machine .responses)
+  pub typed : JobsFit (heldJobs (s .held))

@@ -1,7 +1,11 @@
 // Reading: checked "for 9 and 10"; it "changes only the first n of each destination".
 // Document 01, 'The image' and 'Numbers given when a call is turned down'.
 use crate::Read;
+use image_layout::COUNT_SIZE;
+use image_layout::RESPONSE_SIZE;
 use image_layout::Scanned;
+use image_layout::WORDS_AT;
+use image_layout::WORD_SIZE;
 use image_parts::fields;
 use machine::Check;
 use machine::Refusal;
@@ -10,6 +14,7 @@ ghost use mathlib.Core.Path.{_≡_};
 ghost use Prim.Native.Nat.{_+_, _*_, _≤_};
 ghost use lib.ListN.{length, drop};
 ghost use lib.Seq.{sets};
+ghost use Rattle.image_layout.specs.Sizes.{wordSize, responseSize};
 ghost use Rattle.image_layout.specs.Reading.{numbers};
 ghost use Rattle.image.specs.Calls.{readCheck, readOf, wordsRead, responsesRead};
 
@@ -20,33 +25,30 @@ fn check_read(image: &[u8], words: usize, responses: usize) -> Check
     match found {
         Scanned::Broken(at) => Check::Refused(Refusal::Malformed(at)),
         Scanned::Sound => {
-            let n = fields::number_at(image, 5, 4) as usize;
-            if (words < n) | (responses < n) {
-                return Check::Refused(Refusal::NoRoom);
-            }
-            Check::Passed
+            let n = fields::words_in(image);
+            machine::refuse(Refusal::NoRoom, (words < n) | (responses < n))
         }
     }
 }
 
-fn fill_words(image: &[u8], words: &mut [u64], n: usize)
-    requires { ⌜ (9 + 8 * n ≤ length (now image)) × (n ≤ length (now words)) × (n ≤ 1024) ⌝ }
-    ensures { λ _. ⌜ now (words .exit) ≡ sets (now (words .entry)) 0 (numbers 8 n (drop 9 (now (image .entry)))) ⌝ }
+fn fill_words(image: &[u8], at: usize, words: &mut [u64], n: usize)
+    requires { ⌜ (at + wordSize * n ≤ length (now image)) × (n ≤ length (now words)) ⌝ }
+    ensures { λ _. ⌜ now (words .exit) ≡ sets (now (words .entry)) 0 (numbers wordSize n (drop at (now (image .entry)))) ⌝ }
 {
     let mut i = 0;
     while i < n {
-        words[i] = fields::number_at(image, 9 + 8 * i, 8);
+        words[i] = fields::number_at(image, at + WORD_SIZE * i, WORD_SIZE);
         i += 1;
     }
 }
 
 fn fill_responses(image: &[u8], at: usize, responses: &mut [Response], n: usize)
-    requires { ⌜ (at + n ≤ length (now image)) × (n ≤ length (now responses)) ⌝ }
-    ensures { λ _. ⌜ now (responses .exit) ≡ sets (now (responses .entry)) 0 (numbers 1 n (drop at (now (image .entry)))) ⌝ }
+    requires { ⌜ (at + responseSize * n ≤ length (now image)) × (n ≤ length (now responses)) ⌝ }
+    ensures { λ _. ⌜ now (responses .exit) ≡ sets (now (responses .entry)) 0 (numbers responseSize n (drop at (now (image .entry)))) ⌝ }
 {
     let mut i = 0;
     while i < n {
-        responses[i] = image[at + i];
+        responses[i] = fields::response_at(image, at + RESPONSE_SIZE * i);
         i += 1;
     }
 }
@@ -60,13 +62,14 @@ pub fn read(image: &[u8], words: &mut [u64], responses: &mut [Response]) -> Read
     match check {
         Check::Refused(why) => Read::Refused(why),
         Check::Passed => {
-            let n = fields::number_at(image, 5, 4) as usize;
-            fill_words(image, words, n);
-            fill_responses(image, 13 + 8 * n, responses, n);
+            let n = fields::words_in(image);
+            let responses_at = image_layout::responses_at(n);
+            fill_words(image, WORDS_AT + COUNT_SIZE, words, n);
+            fill_responses(image, responses_at + COUNT_SIZE, responses, n);
             Read::Machine {
-                width: image[4] as u32,
+                width: fields::width_in(image),
                 words: n,
-                held: fields::held_at(image, 13 + 9 * n),
+                held: fields::held_at(image, image_layout::jobs_at(n)),
             }
         }
     }

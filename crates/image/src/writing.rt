@@ -8,29 +8,29 @@ use machine::Check;
 use machine::Refusal;
 use machine::Response;
 ghost use mathlib.Core.Path.{_≡_};
-ghost use Prim.Native.Nat.{_+_, _*_, _≤_};
+ghost use Prim.Native.Nat.{_≤_};
 ghost use lib.ListN.{length};
+ghost use Rattle.image_layout.specs.Sizes.{mostJobs};
 ghost use Rattle.image_layout.specs.Format.{heldJobs};
-ghost use Rattle.image.specs.Calls.{badJob, writeCheck, writeOf, written};
+ghost use Rattle.image.specs.Calls.{jobsCheck, writeCheck, writeOf, written};
 ghost use Rattle.jobs.specs.Runs.{state};
 
-// 8: the held job as after its start; none is fine.
-fn bad_job(width: u32, held: Held) -> bool
-    ensures { λ r. ⌜ r ≡ badJob width held ⌝ }
+// 8: each held job as after its start; none is fine.
+fn check_jobs(width: u32, held: Held) -> Check
+    ensures { λ r. ⌜ r ≡ jobsCheck width (heldJobs held) ⌝ }
 {
     match held {
-        Held::Nothing => false,
-        Held::Holds(o) => job_places::bad_held(width, o),
+        Held::Nothing => Check::Passed,
+        Held::Holds(o) => job_places::check_held(width, o),
     }
 }
 
-// How many bytes the section of the job has.
-fn held_length(held: Held) -> usize
-    ensures { λ r. ⌜ (r ≡ 4 + 22 * length (heldJobs held)) × (r ≤ 26) ⌝ }
+fn count_jobs(held: Held) -> usize
+    ensures { λ r. ⌜ (r ≡ length (heldJobs held)) × (r ≤ mostJobs) ⌝ }
 {
     match held {
-        Held::Nothing => 4,
-        Held::Holds(_) => 26,
+        Held::Nothing => 0,
+        Held::Holds(_) => 1,
     }
 }
 
@@ -41,13 +41,11 @@ fn check_write(words: &[u64], responses: &[Response], width: u32, held: Held, ro
     match check {
         Check::Refused(why) => Check::Refused(why),
         Check::Passed => {
-            if bad_job(width, held) {
-                return Check::Refused(Refusal::Unfit);
-            }
-            if room < 13 + 9 * words.len() + held_length(held) {
-                return Check::Refused(Refusal::NoRoom);
-            }
-            Check::Passed
+            let size = image_layout::image_size(words.len(), count_jobs(held));
+            machine::in_order(
+                check_jobs(width, held),
+                machine::refuse(Refusal::NoRoom, room < size),
+            )
         }
     }
 }

@@ -1,2 +1,3 @@
--- laws of bytes and numbers
-pub mod Bytes
+-- laws of bytes, and of what they say
+pub mod Format
+pub mod Reading

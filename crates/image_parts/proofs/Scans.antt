@@ -1,5 +1,5 @@
 -- One field and runs of fields: what looking at them comes to. b is always the whole of the bytes, `at` a place in them.
-use Prim.Native.Nat.{ℕ, zero, suc, _+_, _*_, _-_, _≤_, _<_}
+use Prim.Native.Nat.{ℕ, zero, suc, _+_, _*_, _-_, _%_, _≤_, _<_}
 use mathlib.Core.Path.{_≡_, refl, sym, ap, _∙_}
 use mathlib.Core.Bool.{Bool, true, false}
 use mathlib.Core.List.{List, [], _∷_, _++_, append-nil}
@@ -13,8 +13,10 @@ use Rattle.laws.specs.Bits.{pick}
 use Rattle.laws.proofs.Bits.{and-left, and-right}
 use Rattle.image_layout.specs.declared.Scanned.{Scanned}
 use Rattle.image_layout.specs.declared.Scanned.the-variants.{Sound, Broken}
-use Rattle.image_layout.specs.Format.{value, byte}
-use Rattle.image_layout.specs.Reading.{Field, scan, countIs, wordCount, widthByte, wordField, responseField, jobCount, jobField, widthIn, wordsIn, jobsAt, jobsIn, fieldsOf, scanned}
+use Rattle.image_layout.specs.Sizes.{countSize, wordSize, responseSize, recordSize, mostJobs, itemsAt, pastSection, widthAt, wordsAt, responsesAt, jobsAt}
+use Rattle.job_plans.specs.declared.Held.the-variants.{Nothing, Holds}
+use Rattle.image_layout.specs.Format.{numberAt, jobOf, heldOf}
+use Rattle.image_layout.specs.Reading.{Field, scan, countIs, wordCount, widthByte, wordField, responseField, jobCount, jobField, widthIn, wordsIn, jobsIn, records, fieldsOf, scanned}
 use Rattle.image_parts.specs.Parts.{holds, onward, jobFields, afterWords}
 
 -- ---- one field
@@ -79,29 +81,35 @@ one-more n i f fs h = let e : n - i ≡ suc (n - (i + 1)) = omega arith in rw e
 pub no-more : (n : ℕ) (f : Field) (fs : List Field) → replicate (n - n) f ++ fs ≡ fs
 no-more n f fs = let e : n - n ≡ 0 = omega arith in rw e
 
--- any byte is a response
-responds : (b : List ℕ) (p : ℕ) → p + 1 ≤ length b → holds responseField (drop p b) ≡ true
+-- any bytes are a response
+responds : (b : List ℕ) (p : ℕ) → p + responseSize ≤ length b → holds responseField (drop p b) ≡ true
 responds b p h = sym (holds-read responseField b p true (omega arith) refl)
 
-pub responses-right : (b : List ℕ) (n p : ℕ) (fs : List Field) → p + n ≤ length b
-    → scan (replicate n responseField ++ fs) p (drop p b) ≡ scan fs (p + n) (drop (p + n) b)
+pub responses-right : (b : List ℕ) (n p : ℕ) (fs : List Field) → p + responseSize * n ≤ length b
+    → scan (replicate n responseField ++ fs) p (drop p b) ≡ scan fs (p + responseSize * n) (drop (p + responseSize * n) b)
 responses-right b zero p fs h = rw add-zero
 responses-right b (suc n) p fs h =
-    let e : p + 1 + n ≡ p + suc n = omega arith in
-    field-right responseField _ b p (responds b p (omega arith)) ∙ responses-right b n (p + 1) fs (omega arith) ∙ rw e
+    let e : p + responseSize + responseSize * n ≡ p + responseSize * suc n = omega arith in
+    field-right responseField _ b p (responds b p (omega arith)) ∙ responses-right b n (p + responseSize) fs (omega arith) ∙ ap (λ (q : ℕ). scan fs q (drop q b)) e
 
-pub responses-cut : (b : List ℕ) (n p : ℕ) (fs : List Field) → p ≤ length b → length b < p + n
-    → scan (replicate n responseField ++ fs) p (drop p b) ≡ Broken (length b)
+-- the first that is not whole: after as many as fit
+pub responses-cut : (b : List ℕ) (n p : ℕ) (fs : List Field) → p ≤ length b → length b < p + responseSize * n
+    → scan (replicate n responseField ++ fs) p (drop p b) ≡ Broken (length b - (length b - p) % responseSize)
 responses-cut b zero p fs h g = absurd (omega arith)
-responses-cut b (suc n) p fs h g = go (leb (p + 1) (length b)) refl (λ k l. responses-cut b n (p + 1) fs k l)
+responses-cut b (suc n) p fs h g = go (leb (p + responseSize) (length b)) refl (λ k l. responses-cut b n (p + responseSize) fs k l)
   where
-    go : (t : Bool) → leb (p + 1) (length b) ≡ t
-        → (p + 1 ≤ length b → length b < p + 1 + n → scan (replicate n responseField ++ fs) (p + 1) (drop (p + 1) b) ≡ Broken (length b))
-        → scan (replicate (suc n) responseField ++ fs) p (drop p b) ≡ Broken (length b)
-    go true e r = field-right responseField _ b p (responds b p (leb-true (p + 1) (length b) e)) ∙ r (leb-true (p + 1) (length b) e) (omega arith)
+    go : (t : Bool) → leb (p + responseSize) (length b) ≡ t
+        → (p + responseSize ≤ length b → length b < p + responseSize + responseSize * n
+        → scan (replicate n responseField ++ fs) (p + responseSize) (drop (p + responseSize) b) ≡ Broken (length b - (length b - (p + responseSize)) % responseSize))
+        → scan (replicate (suc n) responseField ++ fs) p (drop p b) ≡ Broken (length b - (length b - p) % responseSize)
+    go true e r =
+        let l : p + responseSize ≤ length b = leb-true (p + responseSize) (length b) e in
+        let f : length b - (length b - (p + responseSize)) % responseSize ≡ length b - (length b - p) % responseSize = omega arith in
+        field-right responseField _ b p (responds b p l) ∙ r l (omega arith) ∙ ap (λ (q : ℕ). Broken q) f
     go false e r =
-        let f : p ≡ length b = omega (arith, leb-false (p + 1) (length b) e) in
-        field-wrong responseField _ b p (sym (holds-cut responseField b p (omega (arith, f)))) ∙ ap (λ (q : ℕ). Broken q) f
+        let l : length b < p + responseSize = leb-false (p + responseSize) (length b) e in
+        let f : p ≡ length b - (length b - p) % responseSize = omega arith in
+        field-wrong responseField _ b p (sym (holds-cut responseField b p (omega arith))) ∙ ap (λ (q : ℕ). Broken q) f
 
 -- ---- what sound bytes show, field by field
 
@@ -129,111 +137,116 @@ run f (suc n) fs b at l h =
 -- how long sound bytes are, and how many words they can have
 pub record Long (b : List ℕ) : Type 0 where
   pub few : wordsIn b ≤ 1024
-  pub room : jobsAt b + 4 + 22 * jobsIn b ≤ length b
+  pub room : pastSection (jobsAt (wordsIn b)) recordSize (jobsIn b) ≤ length b
   pub some : 1 ≤ wordsIn b
 
 pub long : (b : List ℕ) → scanned b ≡ Sound → Long b
 unfolding scanned fieldsOf
 long b h =
     let n = wordsIn b in
-    let f0 = next (countIs 1) _ b 0 (omega arith) h in
-    let f1 = next widthByte _ b 4 (f0 .held .fits) (f0 .rest) in
-    let f2 = next wordCount _ b 5 (f1 .held .fits) (f1 .rest) in
-    let f3 = run (wordField (widthIn b)) n _ b 9 (f2 .held .fits) (f2 .rest) in
-    let f4 = next (countIs n) _ b (9 + 8 * n) (f3 .0) (f3 .1) in
-    let f5 = run responseField n _ b (9 + 8 * n + 4) (f4 .held .fits) (f4 .rest) in
-    let f6 = next jobCount _ b (9 + 8 * n + 4 + 1 * n) (f5 .0) (f5 .1) in
-    let f7 = run (jobField (widthIn b)) (jobsIn b) [] b (9 + 8 * n + 4 + 1 * n + 4) (f6 .held .fits) (rw append-nil (f6 .rest)) in
+    let f0 = next (countIs 1) _ b widthAt (omega arith) h in
+    let f1 = next widthByte _ b (itemsAt widthAt) (f0 .held .fits) (f0 .rest) in
+    let f2 = next wordCount _ b wordsAt (f1 .held .fits) (f1 .rest) in
+    let f3 = run (wordField (widthIn b)) n _ b (itemsAt wordsAt) (f2 .held .fits) (f2 .rest) in
+    let f4 = next (countIs n) _ b (responsesAt n) (f3 .0) (f3 .1) in
+    let f5 = run responseField n _ b (itemsAt (responsesAt n)) (f4 .held .fits) (f4 .rest) in
+    let f6 = next jobCount _ b (jobsAt n) (f5 .0) (f5 .1) in
+    let f7 = run (jobField (widthIn b)) (jobsIn b) [] b (itemsAt (jobsAt n)) (f6 .held .fits) (rw append-nil (f6 .rest)) in
     record {
       few = leb-true n 1024 (and-right (leb 1 n) (leb n 1024) (f2 .held .right));
-      room = omega (arith, f7 .0);
+      room = f7 .0;
       some = leb-true 1 n (and-left (leb 1 n) (leb n 1024) (f2 .held .right));
     }
 
 -- ---- the code's own steps
 
-pub word-step : (w i : ℕ) (b : List ℕ) (fs : List Field) → holds (wordField w) (drop (9 + 8 * i) b) ≡ true
-    → scan (wordField w ∷ fs) (9 + 8 * i) (drop (9 + 8 * i) b) ≡ scan fs (9 + 8 * (i + 1)) (drop (9 + 8 * (i + 1)) b)
+pub word-step : (w i : ℕ) (b : List ℕ) (fs : List Field) → holds (wordField w) (drop (responsesAt i) b) ≡ true
+    → scan (wordField w ∷ fs) (responsesAt i) (drop (responsesAt i) b) ≡ scan fs (responsesAt (i + 1)) (drop (responsesAt (i + 1)) b)
 word-step w i b fs h =
-    let e : 9 + 8 * i + 8 ≡ 9 + 8 * (i + 1) = omega arith in
-    field-right (wordField w) fs b (9 + 8 * i) h ∙ ap (λ (q : ℕ). scan fs q (drop q b)) e
+    let e : responsesAt i + wordSize ≡ responsesAt (i + 1) = omega arith in
+    field-right (wordField w) fs b (responsesAt i) h ∙ ap (λ (q : ℕ). scan fs q (drop q b)) e
 
-pub after-cut : (w n : ℕ) (b : List ℕ) → 9 + 8 * n ≤ length b → holds (countIs n) (drop (9 + 8 * n) b) ≡ true → length b - (9 + 8 * n + 4) < n
-    → scan (afterWords w n b) (9 + 8 * n) (drop (9 + 8 * n) b) ≡ Broken (length b)
-after-cut w n b l h g =
-    let f : 9 + 8 * n + 4 ≤ length b = held (countIs n) b (9 + 8 * n) l h .fits in
-    field-right (countIs n) _ b (9 + 8 * n) h ∙ responses-cut b n (9 + 8 * n + 4) _ f (omega arith)
+module _ (w n : ℕ) (b : List ℕ) (h : holds (countIs n) (drop (responsesAt n) b) ≡ true) where
+  pub after-cut : responsesAt n ≤ length b → length b - itemsAt (responsesAt n) < responseSize * n
+      → scan (afterWords w n b) (responsesAt n) (drop (responsesAt n) b) ≡ Broken (length b - (length b - itemsAt (responsesAt n)) % responseSize)
+  after-cut l g =
+      let f : itemsAt (responsesAt n) ≤ length b = held (countIs n) b (responsesAt n) l h .fits in
+      field-right (countIs n) _ b (responsesAt n) h ∙ responses-cut b n (itemsAt (responsesAt n)) _ f (omega arith)
 
-pub after-right : (w n : ℕ) (b : List ℕ) → holds (countIs n) (drop (9 + 8 * n) b) ≡ true → 13 + 9 * n ≤ length b
-    → scan (afterWords w n b) (9 + 8 * n) (drop (9 + 8 * n) b) ≡ scan (jobFields w (13 + 9 * n) b) (13 + 9 * n) (drop (13 + 9 * n) b)
-after-right w n b h g =
-    let e : 9 + 8 * n + 4 + n ≡ 13 + 9 * n = omega arith in
-    field-right (countIs n) _ b (9 + 8 * n) h ∙ responses-right b n (9 + 8 * n + 4) _ (omega arith)
-    ∙ ap (λ (q : ℕ). scan (jobFields w (13 + 9 * n) b) q (drop q b)) e
+  pub after-right : jobsAt n ≤ length b
+      → scan (afterWords w n b) (responsesAt n) (drop (responsesAt n) b) ≡ scan (jobFields w (jobsAt n) b) (jobsAt n) (drop (jobsAt n) b)
+  after-right g = field-right (countIs n) _ b (responsesAt n) h ∙ responses-right b n (itemsAt (responsesAt n)) _ g
 
-pub job-none : (w at : ℕ) (b : List ℕ) → holds jobCount (drop at b) ≡ true → value (take 4 (drop at b)) ≡ 0
-    → scan (jobFields w at b) at (drop at b) ≡ scan [] (at + 4) (drop (at + 4) b)
-job-none w at b h e = field-right jobCount _ b at h ∙ ap (λ (k : ℕ). scan (replicate k (jobField w)) (at + 4) (drop (at + 4) b)) e
+module _ (w at : ℕ) (b : List ℕ) (h : holds jobCount (drop at b) ≡ true) where
+  pub job-none : numberAt countSize at b ≡ 0 → scan (jobFields w at b) at (drop at b) ≡ scan [] (itemsAt at) (drop (itemsAt at) b)
+  job-none e = field-right jobCount _ b at h ∙ ap (λ (k : ℕ). scan (replicate k (jobField w)) (itemsAt at) (drop (itemsAt at) b)) e
 
-pub job-one : (w at : ℕ) (b : List ℕ) → at ≤ length b → holds jobCount (drop at b) ≡ true → (value (take 4 (drop at b)) ≡ 0 → ⊥)
-    → scan (jobFields w at b) at (drop at b) ≡ scan (jobField w ∷ []) (at + 4) (drop (at + 4) b)
-job-one w at b l h g =
-    let f : value (take 4 (drop at b)) ≤ 1 = leb-true (value (take 4 (drop at b))) 1 (held jobCount b at l h .right) in
-    field-right jobCount _ b at h ∙ ap (λ (k : ℕ). scan (replicate k (jobField w)) (at + 4) (drop (at + 4) b)) (one (value (take 4 (drop at b))) f g)
-  where
-    one : (v : ℕ) → v ≤ 1 → (v ≡ 0 → ⊥) → v ≡ 1
-    one zero p q = absurd (q refl)
-    one (suc v) p q = omega arith
+  pub job-one : at ≤ length b → (numberAt countSize at b ≡ 0 → ⊥)
+      → scan (jobFields w at b) at (drop at b) ≡ scan (jobField w ∷ []) (itemsAt at) (drop (itemsAt at) b)
+  job-one l g =
+      let f : numberAt countSize at b ≤ mostJobs = leb-true (numberAt countSize at b) mostJobs (held jobCount b at l h .right) in
+      field-right jobCount _ b at h ∙ ap (λ (k : ℕ). scan (replicate k (jobField w)) (itemsAt at) (drop (itemsAt at) b)) (one (numberAt countSize at b) f g)
+    where
+      one : (v : ℕ) → v ≤ mostJobs → (v ≡ 0 → ⊥) → v ≡ 1
+      one zero p q = absurd (q refl)
+      one (suc v) p q = omega arith
 
-pub job-end : (w at : ℕ) (b : List ℕ) → holds (jobField w) (drop (at + 4) b) ≡ true
-    → scan (jobField w ∷ []) (at + 4) (drop (at + 4) b) ≡ scan [] (at + 26) (drop (at + 26) b)
-job-end w at b h =
-    let e : at + 4 + 22 ≡ at + 26 = omega arith in
-    field-right (jobField w) [] b (at + 4) h ∙ ap (λ (q : ℕ). scan [] q (drop q b)) e
+pub job-end : (w at : ℕ) (b : List ℕ) → holds (jobField w) (drop at b) ≡ true
+    → scan (jobField w ∷ []) at (drop at b) ≡ scan [] (at + recordSize) (drop (at + recordSize) b)
+job-end w at b h = field-right (jobField w) [] b at h
+
+-- the held job of a count that is 0, or not
+pub none-held : (v : ℕ) (b : List ℕ) → v ≡ 0 → Nothing ≡ heldOf (records v b)
+unfolding records
+none-held v b e = rw e
+
+pub one-held : (v : ℕ) (b : List ℕ) → (v ≡ 0 → ⊥) → Holds (jobOf (take recordSize b)) ≡ heldOf (records v b)
+unfolding records
+one-held zero b g = absurd (g refl)
+one-held (suc v) b g = refl
 
 -- the first three fields
 
-pub head-count : (b : List ℕ) → holds (countIs 1) b ≡ false → Broken 0 ≡ scanned b
+pub head-count : (b : List ℕ) → holds (countIs 1) b ≡ false → Broken widthAt ≡ scanned b
 unfolding scanned fieldsOf
-head-count b h = sym (field-wrong (countIs 1) _ b 0 h)
+head-count b h = sym (field-wrong (countIs 1) _ b widthAt h)
 
-pub head-width : (b : List ℕ) → holds (countIs 1) b ≡ true → holds widthByte (drop 4 b) ≡ false → Broken 4 ≡ scanned b
-unfolding scanned fieldsOf
-head-width b h g = sym (field-right (countIs 1) _ b 0 h ∙ field-wrong widthByte _ b 4 g)
+module _ (b : List ℕ) (h : holds (countIs 1) b ≡ true) where
+  pub head-width : holds widthByte (drop (itemsAt widthAt) b) ≡ false → Broken (itemsAt widthAt) ≡ scanned b
+  unfolding scanned fieldsOf
+  head-width g = sym (field-right (countIs 1) _ b widthAt h ∙ field-wrong widthByte _ b (itemsAt widthAt) g)
 
-pub head-words : (b : List ℕ) → holds (countIs 1) b ≡ true → holds widthByte (drop 4 b) ≡ true → holds wordCount (drop 5 b) ≡ false → Broken 5 ≡ scanned b
-unfolding scanned fieldsOf
-head-words b h g f = sym (field-right (countIs 1) _ b 0 h ∙ field-right widthByte _ b 4 g ∙ field-wrong wordCount _ b 5 f)
+  pub head-words : holds widthByte (drop (itemsAt widthAt) b) ≡ true → holds wordCount (drop wordsAt b) ≡ false → Broken wordsAt ≡ scanned b
+  unfolding scanned fieldsOf
+  head-words g f = sym (field-right (countIs 1) _ b widthAt h ∙ field-right widthByte _ b (itemsAt widthAt) g ∙ field-wrong wordCount _ b wordsAt f)
 
 pub record Head (b : List ℕ) : Type 0 where
-  pub fits : 9 ≤ length b
+  pub fits : itemsAt wordsAt ≤ length b
   pub few : wordsIn b ≤ 1024
-  pub past : scanned b ≡ scan (replicate (wordsIn b) (wordField (widthIn b)) ++ afterWords (widthIn b) (wordsIn b) b) 9 (drop 9 b)
+  pub past : scanned b ≡ scan (replicate (wordsIn b) (wordField (widthIn b)) ++ afterWords (widthIn b) (wordsIn b) b) (itemsAt wordsAt) (drop (itemsAt wordsAt) b)
 
-pub head : (b : List ℕ) → holds (countIs 1) b ≡ true → holds widthByte (drop 4 b) ≡ true → holds wordCount (drop 5 b) ≡ true → Head b
+pub head : (b : List ℕ) → holds (countIs 1) b ≡ true → holds widthByte (drop (itemsAt widthAt) b) ≡ true → holds wordCount (drop wordsAt b) ≡ true → Head b
 unfolding scanned fieldsOf
 head b h g f =
-    let l : 4 ≤ length b = held (countIs 1) b 0 (omega arith) h .fits in
-    let m : 5 ≤ length b = held widthByte b 4 l g .fits in
-    let k = held wordCount b 5 m f in
+    let l : itemsAt widthAt ≤ length b = held (countIs 1) b widthAt (omega arith) h .fits in
+    let m : wordsAt ≤ length b = held widthByte b (itemsAt widthAt) l g .fits in
+    let k = held wordCount b wordsAt m f in
     record {
       fits = k .fits;
       few = leb-true (wordsIn b) 1024 (and-right (leb 1 (wordsIn b)) (leb (wordsIn b) 1024) (k .right));
-      past = field-right (countIs 1) _ b 0 h ∙ field-right widthByte _ b 4 g ∙ field-right wordCount _ b 5 f;
+      past = field-right (countIs 1) _ b widthAt h ∙ field-right widthByte _ b (itemsAt widthAt) g ∙ field-right wordCount _ b wordsAt f;
     }
 
 -- the words, by what looking at them found
-pub words-broken : (b : List ℕ) (n at : ℕ) (r : Scanned) → Head b → n ≡ wordsIn b
-    → ((fs : List Field) → scan (replicate n (wordField (widthIn b)) ++ fs) 9 (drop 9 b) ≡ onward r (scan fs (9 + 8 * n) (drop (9 + 8 * n) b)))
-    → r ≡ Broken at → Broken at ≡ scanned b
-words-broken b n at r t e h g =
-    let f = rw e at (h (afterWords (widthIn b) n b)) in
-    sym (t .past ∙ f ∙ rw g)
+module _ (b : List ℕ) (w n : ℕ) (r : Scanned) (t : Head b) (v : w ≡ widthIn b) (e : n ≡ wordsIn b)
+    (h : (fs : List Field) → scan (replicate n (wordField w) ++ fs) (itemsAt wordsAt) (drop (itemsAt wordsAt) b) ≡ onward r (scan fs (responsesAt n) (drop (responsesAt n) b))) where
+  pub words-broken : (at : ℕ) → r ≡ Broken at → Broken at ≡ scanned b
+  words-broken at g =
+      let f = rw (e, v) at (h (afterWords w n b)) in
+      sym (t .past ∙ f ∙ rw g)
 
-pub words-sound : (b : List ℕ) (n : ℕ) (r q : Scanned) → Head b → n ≡ wordsIn b
-    → ((fs : List Field) → scan (replicate n (wordField (widthIn b)) ++ fs) 9 (drop 9 b) ≡ onward r (scan fs (9 + 8 * n) (drop (9 + 8 * n) b)))
-    → r ≡ Sound → q ≡ scan (afterWords (widthIn b) n b) (9 + 8 * n) (drop (9 + 8 * n) b) → q ≡ scanned b
-words-sound b n r q t e h g i =
-    let f = rw e at (h (afterWords (widthIn b) n b)) in
-    let j = rw e at i in
-    sym (t .past ∙ f ∙ rw g (sym j))
+  pub words-sound : (q : Scanned) → r ≡ Sound → q ≡ scan (afterWords w n b) (responsesAt n) (drop (responsesAt n) b) → q ≡ scanned b
+  words-sound q g i =
+      let f = rw (e, v) at (h (afterWords w n b)) in
+      let j = rw (e, v) at i in
+      sym (t .past ∙ f ∙ rw g (sym j))

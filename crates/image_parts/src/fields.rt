@@ -1,21 +1,40 @@
 // The image's fields, looked at one after the other: each is whole and right, or its place is answered.
 // Document 01, 'The image' and number 9: "the offset of the first field, read in order, that is cut off or breaks a rule (a job is one
 // field), or of the first byte too many".
+use image_layout::A_AT;
+use image_layout::BITS_AT;
+use image_layout::B_AT;
+use image_layout::CARE_AT;
+use image_layout::CONSTANT_AT;
+use image_layout::CONSTANT_SIZE;
+use image_layout::COUNT_SIZE;
+use image_layout::KEY_AT;
+use image_layout::KIND_AT;
+use image_layout::MOST_JOBS;
+use image_layout::PLACE_AT;
+use image_layout::P_AT;
+use image_layout::RECORD_SIZE;
+use image_layout::RESPONSE_SIZE;
 use image_layout::Scanned;
+use image_layout::WIDTH_AT;
+use image_layout::WIDTH_SIZE;
+use image_layout::WORDS_AT;
+use image_layout::WORD_SIZE;
 use job_plans::Held;
 use job_plans::Job;
 use job_plans::Span;
 use machine::BitSlice;
+use machine::Check;
+use machine::Response;
+use machine::ResponseBit;
 ghost use mathlib.Core.Path.{_≡_};
 ghost use mathlib.Core.List.{List, [], _++_};
-ghost use Prim.Native.Nat.{ℕ, _+_, _*_, _<_, _≤_};
-ghost use lib.Dec.{eqb};
+ghost use Prim.Native.Nat.{_+_, _*_, _^_, _<_, _≤_};
 ghost use lib.ListN.{length, take, drop, replicate};
-ghost use Rattle.laws.specs.Bits.{pick};
-ghost use Rattle.job_plans.specs.declared.Held.the-variants as held;
 ghost use Rattle.image_layout.specs.declared.Scanned.the-variants as found;
-ghost use Rattle.image_layout.specs.Format.{value, byte, spanAt, jobOf};
-ghost use Rattle.image_layout.specs.Reading.{Field, scan, countIs, wordCount, widthByte, wordField, jobCount, jobField, scanned};
+ghost use Rattle.image_layout.specs.Sizes.{countSize, widthSize, responseSize, recordSize, itemsAt, pastSection, widthAt, wordsAt, responsesAt};
+ghost use Rattle.image_layout.specs.Format.{numberAt, byte, spanAt, jobOf, heldOf};
+ghost use Rattle.image_layout.specs.Reading.{Field, scan, countIs, wordCount, widthByte, wordField, jobCount, jobField, widthIn, wordsIn, records, scanned};
 ghost use Rattle.image_parts.specs.Parts.{holds, onward, jobFields, afterWords};
 
 // ---- what bytes say
@@ -23,7 +42,7 @@ ghost use Rattle.image_parts.specs.Parts.{holds, onward, jobFields, afte
 // The number that k bytes stand for, low byte first.
 pub fn number_at(image: &[u8], at: usize, k: usize) -> u64
     requires { ⌜ (at + k ≤ length (now image)) × (k ≤ 8) ⌝ }
-    ensures { λ r. ⌜ r ≡ value (take k (drop at (now (image .entry)))) ⌝ }
+    ensures { λ r. ⌜ (r ≡ numberAt k at (now (image .entry))) × (r < 2 ^ (8 * k)) ⌝ }
 {
     let mut r: u64 = 0;
     let mut i = k;
@@ -34,16 +53,39 @@ pub fn number_at(image: &[u8], at: usize, k: usize) -> u64
     r
 }
 
-pub fn byte_at(image: &[u8], at: usize, k: usize) -> u8
-    requires { ⌜ (at + 22 ≤ length (now image)) × (k < 22) ⌝ }
-    ensures { λ r. ⌜ r ≡ byte (take 22 (drop at (now (image .entry)))) k ⌝ }
+pub fn response_at(image: &[u8], at: usize) -> Response
+    requires { ⌜ at + responseSize ≤ length (now image) ⌝ }
+    ensures { λ r. ⌜ r ≡ numberAt responseSize at (now (image .entry)) ⌝ }
+{
+    number_at(image, at, RESPONSE_SIZE) as Response
+}
+
+pub fn width_in(image: &[u8]) -> u32
+    requires { ⌜ itemsAt widthAt + widthSize ≤ length (now image) ⌝ }
+    ensures { λ r. ⌜ r ≡ widthIn (now (image .entry)) ⌝ }
+{
+    number_at(image, WIDTH_AT + COUNT_SIZE, WIDTH_SIZE) as u32
+}
+
+pub fn words_in(image: &[u8]) -> usize
+    requires { ⌜ itemsAt wordsAt ≤ length (now image) ⌝ }
+    ensures { λ r. ⌜ r ≡ wordsIn (now (image .entry)) ⌝ }
+{
+    number_at(image, WORDS_AT, COUNT_SIZE) as usize
+}
+
+// ---- a job's record, which begins at this place
+
+fn byte_at(image: &[u8], at: usize, k: usize) -> u8
+    requires { ⌜ (at + recordSize ≤ length (now image)) × (k < recordSize) ⌝ }
+    ensures { λ r. ⌜ r ≡ byte (take recordSize (drop at (now (image .entry)))) k ⌝ }
 {
     image[at + k]
 }
 
-pub fn span_at(image: &[u8], at: usize, k: usize) -> Span
-    requires { ⌜ (at + 22 ≤ length (now image)) × (k < 21) ⌝ }
-    ensures { λ r. ⌜ r ≡ spanAt (take 22 (drop at (now (image .entry)))) k ⌝ }
+fn span_at(image: &[u8], at: usize, k: usize) -> Span
+    requires { ⌜ (at + recordSize ≤ length (now image)) × (k + 1 < recordSize) ⌝ }
+    ensures { λ r. ⌜ r ≡ spanAt (take recordSize (drop at (now (image .entry)))) k ⌝ }
 {
     Span {
         low: BitSlice(byte_at(image, at, k)),
@@ -51,111 +93,118 @@ pub fn span_at(image: &[u8], at: usize, k: usize) -> Span
     }
 }
 
-// The job that a record of 22 bytes says.
-pub fn job_at(image: &[u8], at: usize) -> Job
-    requires { ⌜ at + 22 ≤ length (now image) ⌝ }
-    ensures { λ r. ⌜ r ≡ jobOf (take 22 (drop at (now (image .entry)))) ⌝ }
+// The job that a record says.
+fn job_at(image: &[u8], at: usize) -> Job
+    requires { ⌜ at + recordSize ≤ length (now image) ⌝ }
+    ensures { λ r. ⌜ r ≡ jobOf (take recordSize (drop at (now (image .entry)))) ⌝ }
 {
-    let sa = span_at(image, at, 5);
-    let sb = span_at(image, at, 7);
-    let sp = span_at(image, at, 9);
+    let c = number_at(image, at + CONSTANT_AT, CONSTANT_SIZE);
+    let x = byte_at(image, at, BITS_AT);
+    let y = byte_at(image, at, BITS_AT + 1);
+    let sa = span_at(image, at, A_AT);
+    let sb = span_at(image, at, B_AT);
+    let sp = span_at(image, at, P_AT);
     Job {
-        kind: byte_at(image, at, 0),
-        key: byte_at(image, at, 1),
-        care: byte_at(image, at, 2),
-        x: byte_at(image, at, 3),
-        y: byte_at(image, at, 4),
+        kind: byte_at(image, at, KIND_AT),
+        key: response_at(image, at + KEY_AT),
+        care: response_at(image, at + CARE_AT),
+        x: ResponseBit(x),
+        y: ResponseBit(y),
         a: sa,
         b: sb,
         p: sp,
-        phase: byte_at(image, at, 11),
-        i: byte_at(image, at, 12),
-        j: byte_at(image, at, 13),
-        c: number_at(image, at + 14, 8),
+        phase: byte_at(image, at, PLACE_AT),
+        i: byte_at(image, at, PLACE_AT + 1),
+        j: byte_at(image, at, PLACE_AT + 2),
+        c: c,
     }
 }
 
 // The held job, from its count on.
 pub fn held_at(image: &[u8], at: usize) -> Held
-    requires { ⌜ (at + 4 ≤ length (now image)) × (at + 4 + 22 * value (take 4 (drop at (now image))) ≤ length (now image)) ⌝ }
-    ensures { λ r. ⌜ r ≡ pick (eqb (value (take 4 (drop at (now (image .entry))))) 0) held.Nothing (held.Holds (jobOf (take 22 (drop (at + 4) (now (image .entry)))))) ⌝ }
+    requires { ⌜ (itemsAt at ≤ length (now image)) × (pastSection at recordSize (numberAt countSize at (now image)) ≤ length (now image)) ⌝ }
+    ensures { λ r. ⌜ r ≡ heldOf (records (numberAt countSize at (now (image .entry))) (drop (itemsAt at) (now (image .entry)))) ⌝ }
 {
-    if number_at(image, at, 4) == 0 {
+    if number_at(image, at, COUNT_SIZE) == 0 {
         return Held::Nothing;
     }
-    Held::Holds(job_at(image, at + 4))
+    Held::Holds(job_at(image, at + COUNT_SIZE))
 }
 
 // ---- one field: whole and right
 
 // A count that must be n.
-pub fn count_is(image: &[u8], at: usize, n: usize) -> bool
+fn count_is(image: &[u8], at: usize, n: usize) -> bool
     requires { ⌜ at ≤ length (now image) ⌝ }
     ensures { λ r. ⌜ r ≡ holds (countIs n) (drop at (now (image .entry))) ⌝ }
 {
-    if image.len() - at < 4 {
+    if image.len() - at < COUNT_SIZE {
         return false;
     }
-    number_at(image, at, 4) == n as u64
+    number_at(image, at, COUNT_SIZE) == n as u64
 }
 
-pub fn width_right(image: &[u8]) -> bool
-    requires { ⌜ 4 ≤ length (now image) ⌝ }
-    ensures { λ r. ⌜ r ≡ holds widthByte (drop 4 (now (image .entry))) ⌝ }
+fn width_right(image: &[u8]) -> bool
+    requires { ⌜ itemsAt widthAt ≤ length (now image) ⌝ }
+    ensures { λ r. ⌜ r ≡ holds widthByte (drop (itemsAt widthAt) (now (image .entry))) ⌝ }
 {
-    if image.len() - 4 < 1 {
+    if image.len() - (WIDTH_AT + COUNT_SIZE) < WIDTH_SIZE {
         return false;
     }
-    !machine::bad_width(image[4] as u32)
+    !machine::bad_width(width_in(image))
 }
 
-pub fn word_count_right(image: &[u8]) -> bool
-    requires { ⌜ 5 ≤ length (now image) ⌝ }
-    ensures { λ r. ⌜ r ≡ holds wordCount (drop 5 (now (image .entry))) ⌝ }
+fn word_count_right(image: &[u8]) -> bool
+    requires { ⌜ wordsAt ≤ length (now image) ⌝ }
+    ensures { λ r. ⌜ r ≡ holds wordCount (drop wordsAt (now (image .entry))) ⌝ }
 {
-    if image.len() - 5 < 4 {
+    if image.len() - WORDS_AT < COUNT_SIZE {
         return false;
     }
-    let count = number_at(image, 5, 4);
+    let count = words_in(image);
     (1 <= count) & (count <= 1024)
 }
 
-pub fn word_right(image: &[u8], at: usize, width: u32) -> bool
+fn word_right(image: &[u8], at: usize, width: u32) -> bool
     requires { ⌜ at ≤ length (now image) ⌝ }
     ensures { λ r. ⌜ r ≡ holds (wordField width) (drop at (now (image .entry))) ⌝ }
 {
-    if image.len() - at < 8 {
+    if image.len() - at < WORD_SIZE {
         return false;
     }
-    !machine::too_wide(width, number_at(image, at, 8))
+    !machine::too_wide(width, number_at(image, at, WORD_SIZE))
 }
 
 // "job, count 0 or 1"
-pub fn job_count_right(image: &[u8], at: usize) -> bool
+fn job_count_right(image: &[u8], at: usize) -> bool
     requires { ⌜ at ≤ length (now image) ⌝ }
     ensures { λ r. ⌜ r ≡ holds jobCount (drop at (now (image .entry))) ⌝ }
 {
-    if image.len() - at < 4 {
+    if image.len() - at < COUNT_SIZE {
         return false;
     }
-    number_at(image, at, 4) <= 1
+    number_at(image, at, COUNT_SIZE) <= MOST_JOBS
 }
 
 // "A place outside the job's table is malformed."
-pub fn job_right(image: &[u8], at: usize, width: u32) -> bool
+fn job_right(image: &[u8], at: usize, width: u32) -> bool
     requires { ⌜ at ≤ length (now image) ⌝ }
     ensures { λ r. ⌜ r ≡ holds (jobField width) (drop at (now (image .entry))) ⌝ }
 {
-    if image.len() - at < 22 {
+    if image.len() - at < RECORD_SIZE {
         return false;
     }
-    !job_places::bad_held(width, job_at(image, at))
+    let check = job_places::check_held(width, job_at(image, at));
+    match check {
+        Check::Passed => true,
+        Check::Refused(_) => false,
+    }
 }
 
 // ---- the fields in order
 
 // After the last field: "the first byte too many".
-pub fn scan_end(image: &[u8], at: usize) -> Scanned
+fn scan_end(image: &[u8], at: usize) -> Scanned
     requires { ⌜ at ≤ length (now image) ⌝ }
     ensures { λ r. ⌜ r ≡ scan [] at (drop at (now (image .entry))) ⌝ }
 {
@@ -165,44 +214,45 @@ pub fn scan_end(image: &[u8], at: usize) -> Scanned
     Scanned::Sound
 }
 
-pub fn scan_job(image: &[u8], at: usize, width: u32) -> Scanned
+fn scan_job(image: &[u8], at: usize, width: u32) -> Scanned
     requires { ⌜ at ≤ length (now image) ⌝ }
     ensures { λ r. ⌜ r ≡ scan (jobFields width at (now (image .entry))) at (drop at (now (image .entry))) ⌝ }
 {
     if !job_count_right(image, at) {
         return Scanned::Broken(at);
     }
-    if number_at(image, at, 4) == 0 {
-        return scan_end(image, at + 4);
+    if number_at(image, at, COUNT_SIZE) == 0 {
+        return scan_end(image, at + COUNT_SIZE);
     }
-    if !job_right(image, at + 4, width) {
-        return Scanned::Broken(at + 4);
+    if !job_right(image, at + COUNT_SIZE, width) {
+        return Scanned::Broken(at + COUNT_SIZE);
     }
-    scan_end(image, at + 26)
+    scan_end(image, at + COUNT_SIZE + RECORD_SIZE)
 }
 
-// Any byte is a response: only their count and their end can be wrong.
-pub fn scan_responses(image: &[u8], width: u32, n: usize) -> Scanned
-    requires { ⌜ (9 + 8 * n ≤ length (now image)) × (n ≤ 1024) ⌝ }
-    ensures { λ r. ⌜ r ≡ scan (afterWords width n (now (image .entry))) (9 + 8 * n) (drop (9 + 8 * n) (now (image .entry))) ⌝ }
+// Any bytes are a response: only their count and their end can be wrong.
+fn scan_responses(image: &[u8], width: u32, n: usize) -> Scanned
+    requires { ⌜ (responsesAt n ≤ length (now image)) × (n ≤ 1024) ⌝ }
+    ensures { λ r. ⌜ r ≡ scan (afterWords width n (now (image .entry))) (responsesAt n) (drop (responsesAt n) (now (image .entry))) ⌝ }
 {
-    let p = 9 + 8 * n;
-    if !count_is(image, p, n) {
-        return Scanned::Broken(p);
+    let at = image_layout::responses_at(n);
+    if !count_is(image, at, n) {
+        return Scanned::Broken(at);
     }
-    if image.len() - (p + 4) < n {
-        return Scanned::Broken(image.len());
+    let left = image.len() - (at + COUNT_SIZE);
+    if left < RESPONSE_SIZE * n {
+        return Scanned::Broken(image.len() - left % RESPONSE_SIZE);
     }
-    scan_job(image, 13 + 9 * n, width)
+    scan_job(image, image_layout::jobs_at(n), width)
 }
 
-pub fn scan_words(image: &[u8], width: u32, n: usize) -> Scanned
-    requires { ⌜ (9 ≤ length (now image)) × (n ≤ 1024) ⌝ }
-    ensures { λ r. ⌜ ((fs : List Field) → scan (replicate n (wordField width) ++ fs) 9 (drop 9 (now (image .entry))) ≡ onward r (scan fs (9 + 8 * n) (drop (9 + 8 * n) (now (image .entry))))) × (r ≡ found.Sound → 9 + 8 * n ≤ length (now (image .entry))) ⌝ }
+fn scan_words(image: &[u8], width: u32, n: usize) -> Scanned
+    requires { ⌜ (itemsAt wordsAt ≤ length (now image)) × (n ≤ 1024) ⌝ }
+    ensures { λ r. ⌜ ((fs : List Field) → scan (replicate n (wordField width) ++ fs) (itemsAt wordsAt) (drop (itemsAt wordsAt) (now (image .entry))) ≡ onward r (scan fs (responsesAt n) (drop (responsesAt n) (now (image .entry))))) × (r ≡ found.Sound → responsesAt n ≤ length (now (image .entry))) ⌝ }
 {
     let mut i = 0;
     while i < n {
-        let at = 9 + 8 * i;
+        let at = WORDS_AT + COUNT_SIZE + WORD_SIZE * i;
         if !word_right(image, at, width) {
             return Scanned::Broken(at);
         }
@@ -214,17 +264,17 @@ pub fn scan_words(image: &[u8], width: u32, n: usize) -> Scanned
 pub fn scan_image(image: &[u8]) -> Scanned
     ensures { λ r. ⌜ r ≡ scanned (now (image .entry)) ⌝ }
 {
-    if !count_is(image, 0, 1) {
-        return Scanned::Broken(0);
+    if !count_is(image, WIDTH_AT, 1) {
+        return Scanned::Broken(WIDTH_AT);
     }
     if !width_right(image) {
-        return Scanned::Broken(4);
+        return Scanned::Broken(WIDTH_AT + COUNT_SIZE);
     }
     if !word_count_right(image) {
-        return Scanned::Broken(5);
+        return Scanned::Broken(WORDS_AT);
     }
-    let width = image[4] as u32;
-    let n = number_at(image, 5, 4) as usize;
+    let width = width_in(image);
+    let n = words_in(image);
     let words = scan_words(image, width, n);
     match words {
         Scanned::Broken(at) => Scanned::Broken(at),

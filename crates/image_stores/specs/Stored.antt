@@ -2,8 +2,9 @@
 use Prim.Native.Nat.{ℕ}
 use mathlib.Core.List.{List, [], _∷_, _++_}
 use Rattle.machine.specs.Machine.{Machine}
+use Rattle.image_layout.specs.Sizes.{widthSize, wordSize, responseSize}
 use Rattle.image_layout.specs.Format.{bytes, section}
 
 -- the three sections before the job
 unfoldable pub machineBytes : Machine → List ℕ
-machineBytes m = section (bytes 1) (m .width ∷ []) ++ (section (bytes 8) (m .words) ++ section (bytes 1) (m .responses))
+machineBytes m = section (bytes widthSize) (m .width ∷ []) ++ (section (bytes wordSize) (m .words) ++ section (bytes responseSize) (m .responses))

@@ -1,25 +1,23 @@
-use Prim.Native.Nat.{ℕ, _+_, _-_, _≤_, _<_}
+use Prim.Native.Nat.{_+_, _-_, _≤_}
 use mathlib.Core.Path.{_≡_, refl, sym, _∙_}
 use native.Mathlib.Omega.{arith}
 use native.Mathlib.Nat.{add-zero}
 use borrow.Author.Needs.{needs}
-use lib.ListN.{length, drop, getD, length-set}
+use lib.ListN.{length, drop, length-set}
 use lib.Seq.{sets}
 use Rattle.image_stores.proofs.Storing.{list-turn, list-none}
-use Rattle.image_layout.proofs.Bytes.{one-below}
 use Rattle.image_stores.proofs.put_bytes.Statement.{statement}
 use Rattle.image_stores.proofs.put_bytes.Tie as tie
 
 abbrev Inv-loop : tie.InvT-loop
 Inv-loop out₀ at list i₀ out i =
     (i ≤ length list) × (length out ≡ length out₀) × (sets out (at + i) (drop i list) ≡ sets out₀ at list)
-    × ((k : ℕ) → k < i → getD list k 0 < 256)
 
 abbrev μ-loop : tie.MeasureT-loop
 μ-loop out₀ at list i₀ out i = length list - i
 
 loop-holds : tie.Need-loop-holds Inv-loop μ-loop
-loop-holds c = (omega arith, refl, rw add-zero, λ k h. absurd (omega arith))
+loop-holds c = (omega arith, refl, rw add-zero)
 
 shared-slice-read-out : tie.Need-shared-slice-read-out Inv-loop μ-loop
 shared-slice-read-out c = omega arith
@@ -43,7 +41,6 @@ loop-again c =
       omega arith,
       simp length-set (omega arith),
       sym (list-turn (l .out) (a .at) (a .list .now) (l .i) (search needs)) ∙ l .inv .2,
-      one-below (a .list .now) (l .i) (l .inv .3) (omega (arith, c .shared-slice-known .given (l .i))),
     )
 
 add-result : tie.Need-add-result Inv-loop μ-loop
@@ -57,7 +54,7 @@ returns c =
     let a = c .before .before .args in
     let l = c .before .loop in
     let e : l .i ≡ length (a .list .now) = omega arith in
-    (rw e, sym (list-none (l .out) (a .at + length (a .list .now)) (a .list .now)) ∙ rw e at (l .inv .2), rw e at (l .inv .3))
+    (rw e, sym (list-none (l .out) (a .at + length (a .list .now)) (a .list .now)) ∙ rw e at (l .inv .2))
 
 pub put-bytes-spec : {M : Type 1} → statement M
 put-bytes-spec =

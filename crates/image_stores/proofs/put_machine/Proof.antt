@@ -19,8 +19,8 @@ put-words-requires c κs = search needs
 put-requires-4 : tie.Need-put-requires-4
 put-requires-4 c κs = search needs
 
-put-bytes-requires : tie.Need-put-bytes-requires
-put-bytes-requires c κs = search needs
+put-responses-requires : tie.Need-put-responses-requires
+put-responses-requires c κs = search needs
 
 same-length : tie.Need-same-length
 same-length c = search needs
@@ -34,7 +34,7 @@ returns c =
     (c .before .before .before .before .before .before .before .before .before .before .before .before .before .before .put3 .ensures)
     (c .before .before .before .before .before .before .before .before .before .before .put-words .ensures)
     (c .before .before .before .before .before .before .put4 .ensures)
-    (c .before .before .put-bytes .ensures)
+    (c .before .before .put-responses .ensures)
 
 pub put-machine-spec : {M : Type 1} → statement M
 put-machine-spec =
@@ -45,6 +45,6 @@ put-machine-spec =
     put-requires-3
     put-words-requires
     put-requires-4
-    put-bytes-requires
+    put-responses-requires
     same-length
     returns)

@@ -4,14 +4,15 @@ use native.Mathlib.Omega.{arith}
 use lib.ListN.{length, drop}
 use lib.Seq.{sets}
 use borrow.Author.Needs.{needs}
+use Rattle.image_layout.specs.Sizes.{wordSize}
 use Rattle.image_layout.specs.Format.{bytes, items}
-use Rattle.image_stores.proofs.Storing.{words-turn, words-none}
+use Rattle.image_stores.proofs.Storing.{items-turn, items-none}
 use Rattle.image_stores.proofs.put_words.Statement.{statement}
 use Rattle.image_stores.proofs.put_words.Tie as tie
 
 abbrev Inv-loop : tie.InvT-loop
 Inv-loop out₀ at words p₀ i₀ out p i =
-    (i ≤ length words) × (p ≡ at + 8 * i) × (length out ≡ length out₀) × (sets out p (items (bytes 8) (drop i words)) ≡ sets out₀ at (items (bytes 8) words))
+    (i ≤ length words) × (p ≡ at + wordSize * i) × (length out ≡ length out₀) × (sets out p (items (bytes wordSize) (drop i words)) ≡ sets out₀ at (items (bytes wordSize) words))
 
 abbrev μ-loop : tie.MeasureT-loop
 μ-loop out₀ at words p₀ i₀ out p i = length words - i
@@ -40,11 +41,11 @@ loop-again c =
     let a = c .before .before .before .before .before .before .before .before .before .args in
     let r = c .before .before .put in
     let e : length (r .last .0) ≡ length (l .out) = r .kept .0 in
-    let f : r .result ≡ l .p + 8 = r .ensures .0 in (
+    let f : r .result ≡ l .p + wordSize = r .ensures .0 in (
       omega arith,
       omega arith,
       omega arith,
-      rw (r .ensures .1, f) (sym (words-turn (l .out) (l .p) (a .words .now) (l .i) (search needs)) ∙ l .inv .3),
+      rw (r .ensures .1, f) (sym (items-turn wordSize (l .out) (l .p) (a .words .now) (l .i) (search needs)) ∙ l .inv .3),
     )
 
 same-length : tie.Need-same-length Inv-loop μ-loop
@@ -55,7 +56,7 @@ returns c =
     let l = c .before .loop in
     let a = c .before .before .before .before .args in
     let e : l .i ≡ length (a .words .now) = omega arith in
-    (omega arith, sym (words-none (l .out) (l .p) (a .words .now)) ∙ rw e at (l .inv .3))
+    (omega arith, sym (items-none wordSize (l .out) (l .p) (a .words .now)) ∙ rw e at (l .inv .3))
 
 pub put-words-spec : {M : Type 1} → statement M
 put-words-spec =

@@ -1,7 +1,7 @@
 use mathlib.Core.Path.{sym, _∙_}
 use native.Mathlib.Omega.{arith}
 use Rattle.image_parts.proofs.Scans.{long}
-use Rattle.image.proofs.ReadCalls.{read-broken, read-short, read-passed}
+use Rattle.image.proofs.ReadCalls.{read-broken, read-sound}
 use borrow.Author.Needs.{needs}
 use Rattle.image.proofs.reading.check_read.Statement.{statement}
 use Rattle.image.proofs.reading.check_read.Tie as tie
@@ -15,26 +15,24 @@ enum-known-found c = search needs
 enum-told : tie.Need-enum-told
 enum-told c = search needs
 
-number-at-requires : tie.Need-number-at-requires
-number-at-requires c κs =
+words-in-requires : tie.Need-words-in-requires
+words-in-requires c κs =
     let b = c .before .before .before .before .args .image .now in
     let g = long b (sym (c .before .before .scan-image .ensures) ∙ c .enum-told .given .1) in
     omega (arith, g .room)
 
+refuse-requires : tie.Need-refuse-requires
+refuse-requires c κs = search needs
+
 returns : tie.Need-returns
 returns c =
-    let a = c .before .before .before .before .before .before .args in
-    read-short (a .image .now) (a .words) (a .responses) (c .before .number-at .result) _ (c .before .before .before .before .scan-image .ensures) (c .before .before .enum-told .given .1) (c .before .number-at .ensures) (c .if1 .taken)
-
-returns-2 : tie.Need-returns-2
-returns-2 c =
     let a = c .before .before .before .before .before .args in
     read-broken (a .image .now) (a .words) (a .responses) _ _ (c .before .before .before .scan-image .ensures) (c .before .found .given .1)
 
-returns-3 : tie.Need-returns-3
-returns-3 c =
+returns-2 : tie.Need-returns-2
+returns-2 c =
     let a = c .before .before .before .before .before .before .args in
-    read-passed (a .image .now) (a .words) (a .responses) (c .before .number-at .result) _ (c .before .before .before .before .scan-image .ensures) (c .before .before .enum-told .given .1) (c .before .number-at .ensures) (c .if1 .left)
+    read-sound (a .image .now) (a .words) (a .responses) (c .before .words-in .result) _ _ (c .before .before .before .before .scan-image .ensures) (c .before .before .enum-told .given .1) (c .before .words-in .ensures) (c .refuse .ensures)
 
 pub check-read-spec : {M : Type 1} → statement M
 check-read-spec =
@@ -43,7 +41,7 @@ check-read-spec =
     scan-image-requires
     enum-known-found
     enum-told
-    number-at-requires
+    words-in-requires
+    refuse-requires
     returns
-    returns-2
-    returns-3)
+    returns-2)

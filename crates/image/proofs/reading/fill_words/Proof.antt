@@ -1,25 +1,26 @@
 use Prim.Native.Nat.{_+_, _-_, _*_, _≤_}
 use mathlib.Core.Path.{_≡_, refl, sym, _∙_}
 use native.Mathlib.Omega.{arith}
-use native.Mathlib.Nat.{sub-zero}
+use native.Mathlib.Nat.{add-zero, sub-zero}
 use lib.ListN.{length, drop, length-set}
 use lib.Seq.{sets}
 use borrow.Author.Needs.{needs}
+use Rattle.image_layout.specs.Sizes.{wordSize}
 use Rattle.image_layout.specs.Reading.{numbers}
-use Rattle.image_stores.proofs.Storing.{fill-words-turn, fill-none}
+use Rattle.image_stores.proofs.Storing.{fill-turn, fill-none}
 use Rattle.image.proofs.reading.fill_words.Statement.{statement}
 use Rattle.image.proofs.reading.fill_words.Tie as tie
 
 abbrev Inv-loop : tie.InvT-loop
-Inv-loop image words₀ n i₀ words i =
+Inv-loop image at words₀ n i₀ words i =
     (i ≤ n) × (length words ≡ length words₀)
-    × (sets words i (numbers 8 (n - i) (drop (9 + 8 * i) image)) ≡ sets words₀ 0 (numbers 8 n (drop 9 image)))
+    × (sets words i (numbers wordSize (n - i) (drop (at + wordSize * i) image)) ≡ sets words₀ 0 (numbers wordSize n (drop at image)))
 
 abbrev μ-loop : tie.MeasureT-loop
-μ-loop image words₀ n i₀ words i = n - i
+μ-loop image at words₀ n i₀ words i = n - i
 
 loop-holds : tie.Need-loop-holds Inv-loop μ-loop
-loop-holds c = (omega arith, refl, rw sub-zero)
+loop-holds c = (omega arith, refl, rw (sub-zero, add-zero))
 
 mul-number-at : tie.Need-mul-number-at Inv-loop μ-loop
 mul-number-at c = omega arith
@@ -48,7 +49,7 @@ loop-again c =
     let a = c .before .before .before .before .before .args in (
       omega arith,
       simp length-set (omega arith),
-      rw (c .number-at .ensures) (sym (fill-words-turn (l .words) (a .image .now) (l .i) (a .n) (omega arith)) ∙ l .inv .2),
+      rw (c .number-at .ensures .0) (sym (fill-turn wordSize (l .words) (a .image .now) (a .at) (l .i) (a .n) (omega arith)) ∙ l .inv .2),
     )
 
 same-length : tie.Need-same-length Inv-loop μ-loop
@@ -59,7 +60,7 @@ returns c =
     let l = c .before .loop in
     let a = c .before .before .before .before .args in
     let e : l .i ≡ a .n = omega arith in
-    sym (fill-none (l .words) (drop (9 + 8 * a .n) (a .image .now)) 8 (a .n) (a .n)) ∙ rw e at (l .inv .2)
+    sym (fill-none (l .words) (drop (a .at + wordSize * a .n) (a .image .now)) wordSize (a .n) (a .n)) ∙ rw e at (l .inv .2)
 
 pub fill-words-spec : {M : Type 1} → statement M
 fill-words-spec =

@@ -1,5 +1,11 @@
+use mathlib.Core.Path.{sym, _∙_}
+use Rattle.machine.specs.Machine.{machine}
 use Rattle.jobs.specs.Runs.{state}
-use Rattle.image.proofs.WriteCalls.{write-first, write-unfit, write-short, write-passed}
+use Rattle.image_layout.specs.Sizes.{imageSize}
+use lib.ListN.{length}
+use mathlib.Core.Path.{ap}
+use Prim.Native.Nat.{ℕ}
+use Rattle.image.proofs.WriteCalls.{few-words, write-first, write-then}
 use borrow.Author.Needs.{needs}
 use Rattle.image.proofs.writing.check_write.Statement.{statement}
 use Rattle.image.proofs.writing.check_write.Tie as tie
@@ -13,46 +19,33 @@ enum-known-check c = search needs
 enum-told : tie.Need-enum-told
 enum-told c = search needs
 
-bad-job-requires : tie.Need-bad-job-requires
-bad-job-requires c κs = search needs
+count-jobs-requires : tie.Need-count-jobs-requires
+count-jobs-requires c κs = search needs
+
+image-size-requires : tie.Need-image-size-requires
+image-size-requires c κs =
+    let a = c .before .before .before .before .before .before .args in
+    (few-words (machine (a .width) (a .words .now) (a .responses .now)) (sym (c .before .before .before .check-machine .ensures) ∙ c .before .enum-told .given .1), c .count-jobs .ensures .1)
+
+check-jobs-requires : tie.Need-check-jobs-requires
+check-jobs-requires c κs = search needs
+
+refuse-requires : tie.Need-refuse-requires
+refuse-requires c κs = search needs
+
+in-order-requires : tie.Need-in-order-requires
+in-order-requires c κs = search needs
 
 returns : tie.Need-returns
 returns c =
-    let m = c .before .before .before .before in
-    let a = m .before .before .before .args in
-    write-unfit (state (a .width) (a .words .now) (a .responses .now) (a .held)) (a .room) _ _ (m .check-machine .ensures) (c .before .before .enum-told .given .1) (c .before .bad-job .ensures) (c .if1 .taken)
-
-mul-if2 : tie.Need-mul-if2
-mul-if2 c = search needs
-
-add-if2 : tie.Need-add-if2
-add-if2 c = search needs
-
-held-length-requires : tie.Need-held-length-requires
-held-length-requires c κs = search needs
-
-add-if2-2 : tie.Need-add-if2-2
-add-if2-2 c = search needs
+    let a = c .before .before .before .before .before .before .args in
+    write-first (state (a .width) (a .words .now) (a .responses .now) (a .held)) (a .room) _ _ (c .before .before .before .check-machine .ensures) (c .before .check .given .1)
 
 returns-2 : tie.Need-returns-2
 returns-2 c =
-    let m = c .before .before .before .before .before .before in
-    let a = m .before .before .before .args in
-    write-short (state (a .width) (a .words .now) (a .responses .now) (a .held)) (a .room) _ _ _ (m .check-machine .ensures) (c .before .before .before .before .enum-told .given .1)
-    (c .before .before .before .bad-job .ensures) (c .before .before .if1 .left) (c .before .held-length .ensures .0) (c .if2 .taken)
-
-returns-3 : tie.Need-returns-3
-returns-3 c =
-    let m = c .before .before .before in
-    let a = m .before .before .before .args in
-    write-first (state (a .width) (a .words .now) (a .responses .now) (a .held)) (a .room) _ _ (m .check-machine .ensures) (c .before .check .given .1)
-
-returns-4 : tie.Need-returns-4
-returns-4 c =
-    let m = c .before .before .before .before .before .before in
-    let a = m .before .before .before .args in
-    write-passed (state (a .width) (a .words .now) (a .responses .now) (a .held)) (a .room) _ _ _ (m .check-machine .ensures) (c .before .before .before .before .enum-told .given .1)
-    (c .before .before .before .bad-job .ensures) (c .before .before .if1 .left) (c .before .held-length .ensures .0) (c .if2 .left)
+    let a = c .before .before .before .before .before .before .before .before .before .before .args in
+    write-then (state (a .width) (a .words .now) (a .responses .now) (a .held)) (a .room) _ _ _ _ _ (c .before .before .before .before .before .before .before .check-machine .ensures) (c .before .before .before .before .before .enum-told .given .1)
+    (c .before .before .before .image-size .ensures ∙ ap (λ (k : ℕ). imageSize (length (a .words .now)) k) (c .before .before .before .before .count-jobs .ensures .0)) (c .before .before .check-jobs .ensures) (c .before .refuse .ensures) (c .in-order .ensures)
 
 pub check-write-spec : {M : Type 1} → statement M
 check-write-spec =
@@ -61,12 +54,10 @@ check-write-spec =
     check-machine-requires
     enum-known-check
     enum-told
-    bad-job-requires
+    count-jobs-requires
+    image-size-requires
+    check-jobs-requires
+    refuse-requires
+    in-order-requires
     returns
-    mul-if2
-    add-if2
-    held-length-requires
-    add-if2-2
-    returns-2
-    returns-3
-    returns-4)
+    returns-2)

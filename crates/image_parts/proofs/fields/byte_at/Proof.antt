@@ -1,6 +1,7 @@
 use mathlib.Core.Path.{sym, _∙_}
 use lib.ListN.{drop}
 use lib.Seq.{getD-take, getD-drop}
+use Rattle.image_layout.specs.Sizes.{recordSize}
 use borrow.Author.Needs.{needs}
 use Rattle.image_parts.proofs.fields.byte_at.Statement.{statement}
 use Rattle.image_parts.proofs.fields.byte_at.Tie as tie
@@ -14,7 +15,7 @@ shared-slice-read-result c = search needs
 returns : tie.Need-returns
 returns c =
     let a = c .before .args in
-    sym (getD-take 22 (drop (a .at) (a .image .now)) (a .k) 0 (c .before .pre .1) ∙ getD-drop (a .at) (a .image .now) (a .k) 0)
+    sym (getD-take recordSize (drop (a .at) (a .image .now)) (a .k) 0 (c .before .pre .1) ∙ getD-drop (a .at) (a .image .now) (a .k) 0)
 
 pub byte-at-spec : {M : Type 1} → statement M
 byte-at-spec = tie.close (tie.spec add-result shared-slice-read-result returns)

@@ -19,7 +19,7 @@ number-at-requires c κs = search needs
 returns-2 : tie.Need-returns-2
 returns-2 c =
     let a = c .before .before .before .args in
-    holds-read (countIs (a .n)) (a .image .now) (a .at) _ (c .before .if1 .left) (ap (λ (v : ℕ). eqb v (a .n)) (c .number-at .ensures))
+    holds-read (countIs (a .n)) (a .image .now) (a .at) _ (c .before .if1 .left) (ap (λ (v : ℕ). eqb v (a .n)) (c .number-at .ensures .0))
 
 pub count-is-spec : {M : Type 1} → statement M
 count-is-spec = tie.close (tie.spec sub-if1 returns number-at-requires returns-2)

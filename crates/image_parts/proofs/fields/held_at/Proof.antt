@@ -1,9 +1,8 @@
-use Prim.Native.Nat.{_+_}
 use mathlib.Core.Path.{sym, ap, _∙_}
-use lib.ListN.{take, drop}
-use Rattle.job_plans.specs.declared.Held.the-variants.{Nothing, Holds}
-use Rattle.image_layout.specs.Format.{value, jobOf}
-use Rattle.image_layout.proofs.Bytes.{zero-picks, other-picks}
+use Rattle.job_plans.specs.declared.Held.the-variants.{Holds}
+use Rattle.image_layout.specs.Sizes.{countSize}
+use Rattle.image_layout.specs.Format.{numberAt}
+use Rattle.image_parts.proofs.Scans.{none-held, one-held}
 use borrow.Author.Needs.{needs}
 use Rattle.image_parts.proofs.fields.held_at.Statement.{statement}
 use Rattle.image_parts.proofs.fields.held_at.Tie as tie
@@ -12,10 +11,7 @@ number-at-requires : tie.Need-number-at-requires
 number-at-requires c κs = search needs
 
 returns : tie.Need-returns
-returns c =
-    let a = c .before .before .before .args in
-    zero-picks (value (take 4 (drop (a .at) (a .image .now)))) Nothing (Holds (jobOf (take 22 (drop (a .at + 4) (a .image .now)))))
-    (sym (c .before .number-at .ensures) ∙ c .if1 .taken)
+returns c = let a = c .before .before .before .args in none-held (numberAt countSize (a .at) (a .image .now)) _ (sym (c .before .number-at .ensures .0) ∙ c .if1 .taken)
 
 add-job-at : tie.Need-add-job-at
 add-job-at c = search needs
@@ -26,9 +22,7 @@ job-at-requires c κs = search needs
 returns-2 : tie.Need-returns-2
 returns-2 c =
     let a = c .before .before .before .before .args in
-    ap Holds (c .job-at .ensures)
-    ∙ other-picks (value (take 4 (drop (a .at) (a .image .now)))) Nothing (Holds (jobOf (take 22 (drop (a .at + 4) (a .image .now)))))
-    (λ z. c .before .if1 .left (c .before .before .number-at .ensures ∙ z))
+    ap Holds (c .job-at .ensures) ∙ one-held (numberAt countSize (a .at) (a .image .now)) _ (λ z. c .before .if1 .left (c .before .before .number-at .ensures .0 ∙ z))
 
 pub held-at-spec : {M : Type 1} → statement M
 held-at-spec = tie.close (tie.spec number-at-requires returns add-job-at job-at-requires returns-2)

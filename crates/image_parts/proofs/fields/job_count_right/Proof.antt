@@ -1,6 +1,7 @@
 use Prim.Native.Nat.{ℕ}
 use mathlib.Core.Path.{ap}
 use lib.Dec.{leb}
+use Rattle.image_layout.specs.Sizes.{mostJobs}
 use Rattle.image_layout.specs.Reading.{jobCount}
 use Rattle.image_parts.proofs.Scans.{holds-cut, holds-read}
 use borrow.Author.Needs.{needs}
@@ -19,7 +20,7 @@ number-at-requires c κs = search needs
 returns-2 : tie.Need-returns-2
 returns-2 c =
     let a = c .before .before .before .args in
-    holds-read jobCount (a .image .now) (a .at) _ (c .before .if1 .left) (ap (λ (v : ℕ). leb v 1) (c .number-at .ensures))
+    holds-read jobCount (a .image .now) (a .at) _ (c .before .if1 .left) (ap (λ (v : ℕ). leb v mostJobs) (c .number-at .ensures .0))
 
 pub job-count-right-spec : {M : Type 1} → statement M
 job-count-right-spec = tie.close (tie.spec sub-if1 returns number-at-requires returns-2)

@@ -1,6 +1,7 @@
-use mathlib.Core.Path.{ap, _∙_}
-use mathlib.Core.Bool.{not}
-use Rattle.job_plans.specs.Places.{badHeld}
+use mathlib.Core.Path.{sym, ap, _∙_}
+use mathlib.Core.Bool.{true, false}
+use Rattle.machine.specs.Refusals.{passes}
+use Rattle.job_plans.specs.Places.{heldCheck}
 use Rattle.image_layout.specs.Reading.{jobField}
 use Rattle.image_parts.proofs.Scans.{holds-cut, holds-read}
 use borrow.Author.Needs.{needs}
@@ -16,14 +17,36 @@ returns c = let a = c .before .before .args in holds-cut (jobField (a .width)) (
 job-at-requires : tie.Need-job-at-requires
 job-at-requires c κs = search needs
 
-bad-held-requires : tie.Need-bad-held-requires
-bad-held-requires c κs = search needs
+check-held-requires : tie.Need-check-held-requires
+check-held-requires c κs = search needs
+
+enum-told : tie.Need-enum-told
+enum-told c = search needs
+
+enum-told-2 : tie.Need-enum-told-2
+enum-told-2 c = search needs
 
 returns-2 : tie.Need-returns-2
 returns-2 c =
-    let a = c .before .before .before .before .args in
-    holds-read (jobField (a .width)) (a .image .now) (a .at) _ (c .before .before .if1 .left)
-    (ap not (c .bad-held .ensures ∙ ap (badHeld (a .width)) (c .before .job-at .ensures)))
+    let a = c .before .before .before .before .before .before .args in
+    holds-read (jobField (a .width)) (a .image .now) (a .at) true (c .before .before .before .before .if1 .left)
+    (ap passes (sym (c .enum-told .given .1) ∙ c .before .before .check-held .ensures ∙ ap (heldCheck (a .width)) (c .before .before .before .job-at .ensures)))
+
+returns-3 : tie.Need-returns-3
+returns-3 c =
+    let a = c .before .before .before .before .before .before .args in
+    holds-read (jobField (a .width)) (a .image .now) (a .at) false (c .before .before .before .before .if1 .left)
+    (ap passes (sym (c .enum-told2 .given .1) ∙ c .before .before .check-held .ensures ∙ ap (heldCheck (a .width)) (c .before .before .before .job-at .ensures)))
 
 pub job-right-spec : {M : Type 1} → statement M
-job-right-spec = tie.close (tie.spec sub-if1 returns job-at-requires bad-held-requires returns-2)
+job-right-spec =
+    tie.close
+    (tie.spec
+    sub-if1
+    returns
+    job-at-requires
+    check-held-requires
+    enum-told
+    enum-told-2
+    returns-2
+    returns-3)

@@ -5,7 +5,7 @@ use native.Mathlib.Nat.{add-zero, sub-zero}
 use lib.ListN.{take, drop}
 use lib.Pow.{pow-pos}
 use Rattle.image_layout.specs.Format.{value}
-use Rattle.image_layout.proofs.Bytes.{value-none, value-down, pow-down, pow-room}
+use Rattle.image_layout.proofs.Format.{value-none, value-down, pow-down, pow-room}
 use Rattle.image_parts.proofs.fields.number_at.Statement.{statement}
 use Rattle.image_parts.proofs.fields.number_at.Tie as tie
 
@@ -55,7 +55,7 @@ returns : tie.Need-returns Inv-loop μ-loop
 returns c =
     let l = c .before .loop in
     let e : l .i ≡ 0 = omega arith in
-    rw (e, sub-zero, add-zero) at (l .inv .1)
+    (rw (e, sub-zero, add-zero) at (l .inv .1), rw (e, sub-zero) at (l .inv .2))
 
 pub number-at-spec : {M : Type 1} → statement M
 number-at-spec =

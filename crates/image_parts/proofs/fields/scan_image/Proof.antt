@@ -2,6 +2,7 @@ use Prim.Native.Nat.{_≤_}
 use mathlib.Core.Path.{sym, _∙_}
 use native.Mathlib.Omega.{arith}
 use borrow.Author.Tests.{not-true, not-false}
+use Rattle.image_layout.specs.Sizes.{itemsAt, widthAt}
 use Rattle.image_layout.specs.Reading.{countIs, widthByte}
 use Rattle.image_parts.proofs.Scans.{held, head-count, head-width, head-words, head, words-broken, words-sound}
 use borrow.Author.Needs.{needs}
@@ -15,7 +16,10 @@ returns : tie.Need-returns
 returns c = head-count (c .before .before .before .args .image .now) (sym (c .before .count-is .ensures) ∙ not-true _ (c .if1 .taken))
 
 width-right-requires : tie.Need-width-right-requires
-width-right-requires c κs = held (countIs 1) (c .before .before .before .args .image .now) 0 (omega arith) (sym (c .before .count-is .ensures) ∙ not-false _ (c .if1 .left)) .fits
+width-right-requires c κs = held (countIs 1) (c .before .before .before .args .image .now) widthAt (omega arith) (sym (c .before .count-is .ensures) ∙ not-false _ (c .if1 .left)) .fits
+
+add-t8 : tie.Need-add-t8
+add-t8 c = search needs
 
 returns-2 : tie.Need-returns-2
 returns-2 c = head-width (c .before .before .before .before .before .args .image .now) (sym (c .before .before .before .count-is .ensures) ∙ not-false _ (c .before .before .if1 .left)) (sym (c .before .width-right .ensures) ∙ not-true _ (c .if2 .taken))
@@ -23,37 +27,28 @@ returns-2 c = head-width (c .before .before .before .before .before .args .image
 word-count-right-requires : tie.Need-word-count-right-requires
 word-count-right-requires c κs =
     let b = c .before .before .before .before .before .args .image .now in
-    held widthByte b 4 (held (countIs 1) b 0 (omega arith) (sym (c .before .before .before .count-is .ensures) ∙ not-false _ (c .before .before .if1 .left)) .fits) (sym (c .before .width-right .ensures) ∙ not-false _ (c .if2 .left)) .fits
+    held widthByte b (itemsAt widthAt) (held (countIs 1) b widthAt (omega arith) (sym (c .before .before .before .count-is .ensures) ∙ not-false _ (c .before .before .if1 .left)) .fits) (sym (c .before .width-right .ensures) ∙ not-false _ (c .if2 .left)) .fits
 
 returns-3 : tie.Need-returns-3
 returns-3 c = head-words (c .before .before .before .before .before .before .before .args .image .now) (sym (c .before .before .before .before .before .count-is .ensures) ∙ not-false _ (c .before .before .before .before .if1 .left)) (sym (c .before .before .before .width-right .ensures) ∙ not-false _ (c .before .before .if2 .left)) (sym (c .before .word-count-right .ensures) ∙ not-true _ (c .if3 .taken))
 
-shared-slice-read-width : tie.Need-shared-slice-read-width
-shared-slice-read-width c =
-    let a = c .before .before .before .before .before .before .before .before .args in
-    let h = (head (a .image .now) (sym (c .before .before .before .before .before .before .count-is .ensures) ∙ not-false _ (c .before .before .before .before .before .if1 .left))
-    (sym (c .before .before .before .before .width-right .ensures) ∙ not-false _ (c .before .before .before .if2 .left))
-    (sym (c .before .before .word-count-right .ensures) ∙ not-false _ (c .before .if3 .left))) in
+width-in-requires : tie.Need-width-in-requires
+width-in-requires c κs =
+    let b = c .before .before .before .before .before .before .before .args .image .now in
+    let h = head b (sym (c .before .before .before .before .before .count-is .ensures) ∙ not-false _ (c .before .before .before .before .if1 .left)) (sym (c .before .before .before .width-right .ensures) ∙ not-false _ (c .before .before .if2 .left)) (sym (c .before .word-count-right .ensures) ∙ not-false _ (c .if3 .left)) in
     omega (arith, h .fits)
 
-cast-width : tie.Need-cast-width
-cast-width c = omega (arith, c .shared-slice-known2 .given 4)
-
-number-at-requires : tie.Need-number-at-requires
-number-at-requires c κs =
-    let a = c .before .before .before .before .before .before .before .before .args in
-    let h = (head (a .image .now) (sym (c .before .before .before .before .before .before .count-is .ensures) ∙ not-false _ (c .before .before .before .before .before .if1 .left))
-    (sym (c .before .before .before .before .width-right .ensures) ∙ not-false _ (c .before .before .before .if2 .left))
-    (sym (c .before .before .word-count-right .ensures) ∙ not-false _ (c .before .if3 .left))) in
-    (h .fits, omega arith)
+words-in-requires : tie.Need-words-in-requires
+words-in-requires c κs =
+    let b = c .before .before .before .before .before .before .before .before .args .image .now in
+    let h = head b (sym (c .before .before .before .before .before .before .count-is .ensures) ∙ not-false _ (c .before .before .before .before .before .if1 .left)) (sym (c .before .before .before .before .width-right .ensures) ∙ not-false _ (c .before .before .before .if2 .left)) (sym (c .before .before .word-count-right .ensures) ∙ not-false _ (c .before .if3 .left)) in
+    h .fits
 
 scan-words-requires : tie.Need-scan-words-requires
 scan-words-requires c κs =
-    let a = c .before .before .before .before .before .before .before .before .before .args in
-    let h = (head (a .image .now) (sym (c .before .before .before .before .before .before .before .count-is .ensures) ∙ not-false _ (c .before .before .before .before .before .before .if1 .left))
-    (sym (c .before .before .before .before .before .width-right .ensures) ∙ not-false _ (c .before .before .before .before .if2 .left))
-    (sym (c .before .before .before .word-count-right .ensures) ∙ not-false _ (c .before .before .if3 .left))) in
-    (h .fits, omega (arith, h .few, c .number-at .ensures))
+    let b = c .before .before .before .before .before .before .before .before .before .args .image .now in
+    let h = head b (sym (c .before .before .before .before .before .before .before .count-is .ensures) ∙ not-false _ (c .before .before .before .before .before .before .if1 .left)) (sym (c .before .before .before .before .before .width-right .ensures) ∙ not-false _ (c .before .before .before .before .if2 .left)) (sym (c .before .before .before .word-count-right .ensures) ∙ not-false _ (c .before .before .if3 .left)) in
+    (h .fits, omega (arith, h .few, c .words-in .ensures))
 
 enum-known-words : tie.Need-enum-known-words
 enum-known-words c = search needs
@@ -63,30 +58,22 @@ enum-told c = search needs
 
 scan-responses-requires : tie.Need-scan-responses-requires
 scan-responses-requires c κs =
-    let a = c .before .before .before .before .before .before .before .before .before .before .before .before .args in
-    let h = (head (a .image .now) (sym (c .before .before .before .before .before .before .before .before .before .before .count-is .ensures) ∙ not-false _ (c .before .before .before .before .before .before .before .before .before .if1 .left))
-    (sym (c .before .before .before .before .before .before .before .before .width-right .ensures) ∙ not-false _ (c .before .before .before .before .before .before .before .if2 .left))
-    (sym (c .before .before .before .before .before .before .word-count-right .ensures) ∙ not-false _ (c .before .before .before .before .before .if3 .left))) in
-    let e : c .before .before .before .number-at .result ≤ 1024 = omega (arith, h .few, c .before .before .before .number-at .ensures) in
+    let b = c .before .before .before .before .before .before .before .before .before .before .before .before .args .image .now in
+    let h = head b (sym (c .before .before .before .before .before .before .before .before .before .before .count-is .ensures) ∙ not-false _ (c .before .before .before .before .before .before .before .before .before .if1 .left)) (sym (c .before .before .before .before .before .before .before .before .width-right .ensures) ∙ not-false _ (c .before .before .before .before .before .before .before .if2 .left)) (sym (c .before .before .before .before .before .before .word-count-right .ensures) ∙ not-false _ (c .before .before .before .before .before .if3 .left)) in
+    let e : c .before .before .before .words-in .result ≤ 1024 = omega (arith, h .few, c .before .before .before .words-in .ensures) in
     (c .before .before .scan-words .ensures .1 (c .enum-told .given .1), e)
 
 returns-4 : tie.Need-returns-4
 returns-4 c =
-    let a = c .before .before .before .before .before .before .before .before .before .before .before .before .before .args in
-    let h = (head (a .image .now) (sym (c .before .before .before .before .before .before .before .before .before .before .before .count-is .ensures) ∙ not-false _ (c .before .before .before .before .before .before .before .before .before .before .if1 .left))
-    (sym (c .before .before .before .before .before .before .before .before .before .width-right .ensures) ∙ not-false _ (c .before .before .before .before .before .before .before .before .if2 .left))
-    (sym (c .before .before .before .before .before .before .before .word-count-right .ensures) ∙ not-false _ (c .before .before .before .before .before .before .if3 .left))) in
-    words-broken (a .image .now) (c .before .before .before .before .number-at .result) _ (c .before .before .before .scan-words .result) h (c .before .before .before .before .number-at .ensures)
-    (c .before .before .before .scan-words .ensures .0) (c .before .words .given .1)
+    let b = c .before .before .before .before .before .before .before .before .before .before .before .before .before .args .image .now in
+    let h = head b (sym (c .before .before .before .before .before .before .before .before .before .before .before .count-is .ensures) ∙ not-false _ (c .before .before .before .before .before .before .before .before .before .before .if1 .left)) (sym (c .before .before .before .before .before .before .before .before .before .width-right .ensures) ∙ not-false _ (c .before .before .before .before .before .before .before .before .if2 .left)) (sym (c .before .before .before .before .before .before .before .word-count-right .ensures) ∙ not-false _ (c .before .before .before .before .before .before .if3 .left)) in
+    words-broken b _ _ (c .before .before .before .scan-words .result) h (c .before .before .before .before .before .width-in .ensures) (c .before .before .before .before .words-in .ensures) (c .before .before .before .scan-words .ensures .0) _ (c .before .words .given .1)
 
 returns-5 : tie.Need-returns-5
 returns-5 c =
-    let a = c .before .before .before .before .before .before .before .before .before .before .before .before .before .args in
-    let h = (head (a .image .now) (sym (c .before .before .before .before .before .before .before .before .before .before .before .count-is .ensures) ∙ not-false _ (c .before .before .before .before .before .before .before .before .before .before .if1 .left))
-    (sym (c .before .before .before .before .before .before .before .before .before .width-right .ensures) ∙ not-false _ (c .before .before .before .before .before .before .before .before .if2 .left))
-    (sym (c .before .before .before .before .before .before .before .word-count-right .ensures) ∙ not-false _ (c .before .before .before .before .before .before .if3 .left))) in
-    words-sound (a .image .now) (c .before .before .before .before .number-at .result) (c .before .before .before .scan-words .result) _ h (c .before .before .before .before .number-at .ensures)
-    (c .before .before .before .scan-words .ensures .0) (c .before .enum-told .given .1) (c .scan-responses .ensures)
+    let b = c .before .before .before .before .before .before .before .before .before .before .before .before .before .args .image .now in
+    let h = head b (sym (c .before .before .before .before .before .before .before .before .before .before .before .count-is .ensures) ∙ not-false _ (c .before .before .before .before .before .before .before .before .before .before .if1 .left)) (sym (c .before .before .before .before .before .before .before .before .before .width-right .ensures) ∙ not-false _ (c .before .before .before .before .before .before .before .before .if2 .left)) (sym (c .before .before .before .before .before .before .before .word-count-right .ensures) ∙ not-false _ (c .before .before .before .before .before .before .if3 .left)) in
+    words-sound b _ _ (c .before .before .before .scan-words .result) h (c .before .before .before .before .before .width-in .ensures) (c .before .before .before .before .words-in .ensures) (c .before .before .before .scan-words .ensures .0) _ (c .before .enum-told .given .1) (c .scan-responses .ensures)
 
 pub scan-image-spec : {M : Type 1} → statement M
 scan-image-spec =
@@ -95,12 +82,12 @@ scan-image-spec =
     count-is-requires
     returns
     width-right-requires
+    add-t8
     returns-2
     word-count-right-requires
     returns-3
-    shared-slice-read-width
-    cast-width
-    number-at-requires
+    width-in-requires
+    words-in-requires
     scan-words-requires
     enum-known-words
     enum-told

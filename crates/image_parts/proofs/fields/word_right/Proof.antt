@@ -23,7 +23,7 @@ returns-2 : tie.Need-returns-2
 returns-2 c =
     let a = c .before .before .before .before .args in
     holds-read (wordField (a .width)) (a .image .now) (a .at) _ (c .before .before .if1 .left)
-    (ap not (c .too-wide .ensures ∙ ap (tooWide (a .width)) (c .before .number-at .ensures)))
+    (ap not (c .too-wide .ensures ∙ ap (tooWide (a .width)) (c .before .number-at .ensures .0)))
 
 pub word-right-spec : {M : Type 1} → statement M
 word-right-spec =
