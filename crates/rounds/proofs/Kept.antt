@@ -10,6 +10,7 @@ use lib.Seq.{drop-drop, getD-set-same, getD-set-other, getD-at}
 use Rattle.laws.specs.Bits.{bit}
 use Rattle.laws.proofs.Digits.{tri}
 use Rattle.machine.specs.declared.WordSlice.{WordSlice}
+use Rattle.machine.specs.declared.ResponseBit.{ResponseBit}
 use Rattle.machine.specs.Machine.{Machine, responseBits}
 use Rattle.rounds.specs.declared.Verdict.{Verdict}
 use Rattle.rounds.specs.declared.Verdict.the-variants.{Done}
@@ -20,18 +21,18 @@ use Rattle.rounds.specs.Round.{Fit}
 use Rattle.rounds.proofs.Answering.{lost, answered-else}
 use Rattle.rounds.proofs.Responders.{first-lowest, first-off, first-of-rest}
 
-pub record Kept (x f : ℕ) (vs : List Verdict) (m n : Machine) : Type 0 where
+pub record Kept (x f : ResponseBit) (vs : List Verdict) (m n : Machine) : Type 0 where
   pub enough : length vs ≤ length (responders x m)
   pub left : responders x n ≡ drop (length vs) (responders x m)
   pub judged : (i : ℕ) → i < length vs → response n (responder x m i) ≡ answered x f (getD vs i Done) (response m (responder x m i))
   pub others : (j : ℕ) → NotAmong (responders x m) (length vs) j → response n j ≡ response m j
-  pub kept : (j b : ℕ) → b < responseBits → (b ≡ x → ⊥) → (b ≡ f → ⊥) → bit (response n j) b ≡ bit (response m j) b
+  pub kept : (j b : ℕ) → b < responseBits → (b ≡ x .0 → ⊥) → (b ≡ f .0 → ⊥) → bit (response n j) b ≡ bit (response m j) b
   pub fit : 0 < length vs → Fit x f
   pub width : n .width ≡ m .width
   pub words : n .words ≡ m .words
   pub as-many : length (n .responses) ≡ length (m .responses)
 
-start : (x f : ℕ) (m : Machine) → Kept x f [] m m
+start : (x f : ResponseBit) (m : Machine) → Kept x f [] m m
 start x f m = record {
   enough = omega arith;
   left = refl;
@@ -46,7 +47,7 @@ start x f m = record {
 
 -- ---- one more answer: for word k, with the verdict v, from the machine n
 
-module _ (x f : ℕ) (vs : List Verdict) (m n : Machine) (w : Kept x f vs m n) (k : WordSlice) (v : Verdict) (a : Accepted x f k n) where
+module _ (x f : ResponseBit) (vs : List Verdict) (m n : Machine) (w : Kept x f vs m n) (k : WordSlice) (v : Verdict) (a : Accepted x f k n) where
   -- the word is responder `length vs`
   in-turn : (length vs < length (responders x m)) × (responder x m (length vs) ≡ k .0)
   unfolding shown
@@ -95,7 +96,7 @@ module _ (x f : ℕ) (vs : List Verdict) (m n : Machine) (w : Kept x f vs m n) (
   new-others j h =
       elsewhere j (λ e. h (length vs) (omega (arith, longer)) (in-turn .1 ∙ sym e)) ∙ w .others j (λ i l. h i (omega (arith, longer)))
 
-  new-kept : (j b : ℕ) → b < responseBits → (b ≡ x → ⊥) → (b ≡ f → ⊥) → bit (response new j) b ≡ bit (response m j) b
+  new-kept : (j b : ℕ) → b < responseBits → (b ≡ x .0 → ⊥) → (b ≡ f .0 → ⊥) → bit (response new j) b ≡ bit (response m j) b
   new-kept j b h p q =
       ⊎-elim (λ u. off (λ e. absurd (omega arith)))
       (⊎-elim (λ e. rw e (ap (λ (r : ℕ). bit r b) here ∙ answered-else x f v (response n (k .0)) b h p q ∙ w .kept (k .0) b h p q))
@@ -121,7 +122,7 @@ module _ (x f : ℕ) (vs : List Verdict) (m n : Machine) (w : Kept x f vs m n) (
     as-many = length-set (n .responses) (k .0) (answered x f v (response n (k .0))) ∙ w .as-many;
   }
 
-pub run : {x f : ℕ} {m : Machine} {vs : List Verdict} {n : Machine} → Answers x f m vs n → Kept x f vs m n
+pub run : {x f : ResponseBit} {m : Machine} {vs : List Verdict} {n : Machine} → Answers x f m vs n → Kept x f vs m n
 unfolding afterAnswer new
 run {x} {f} {m} none-yet = start x f m
 run {x} {f} {m} (one-more {vs} {n} k v t h) =

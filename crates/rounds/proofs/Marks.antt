@@ -13,6 +13,7 @@ use borrow.Author.Tests.{eq-eqb, ne-eqb}
 use Rattle.laws.specs.Bits.{bit, number, every, pick, digit}
 use Rattle.laws.proofs.Digits.{tri, div-suc, bit-lt}
 use Rattle.laws.proofs.Bits.{digit-at, number-like, number-lt, every-at, every-all, low-bit, bit-none}
+use Rattle.machine.specs.declared.ResponseBit.{ResponseBit}
 use Rattle.machine.specs.declared.Found.{Found}
 use Rattle.machine.specs.declared.Found.the-variants.{At}
 use Rattle.machine.specs.Machine.{responseBits, selected}
@@ -72,11 +73,11 @@ every-one k x f h g = go (f x) (every k f) refl refl
     go false true e d = sym (every-at k f d x h) ∙ e
     go false false e d = refl
 
-pub selected-has : (x r : ℕ) → x < responseBits → selected (2 ^ x) (2 ^ x) r ≡ has x r
+pub selected-has : (x : ResponseBit) (r : ℕ) → x .0 < responseBits → selected (2 ^ x .0) (2 ^ x .0) r ≡ has x r
 unfolding selected
 selected-has x r h =
-    every-one responseBits x (λ i. eqb (bit (2 ^ x) i) 0 || eqb (bit r i) (bit (2 ^ x) i)) h (λ i g. rw (mask-else x i g))
-    ∙ ap (λ (b : ℕ). eqb b 0 || eqb (bit r x) b) (mask-here x)
+    every-one responseBits (x .0) (λ i. eqb (bit (2 ^ x .0) i) 0 || eqb (bit r i) (bit (2 ^ x .0) i)) h (λ i g. rw (mask-else (x .0) i g))
+    ∙ ap (λ (b : ℕ). eqb b 0 || eqb (bit r (x .0)) b) (mask-here (x .0))
 
 -- two tests that agree find the same
 lowest-like : (f g : ℕ → Bool) (k : ℕ) (rs : List ℕ) → ((r : ℕ) → f r ≡ g r) → lowest f k rs ≡ lowest g k rs
@@ -84,9 +85,9 @@ unfolding lowest
 lowest-like f g k [] h = refl
 lowest-like f g k (r ∷ rs) h = ap₂ (λ (t : Bool) (s : Found). pick t (At (record { 0 = k })) s) (h r) (lowest-like f g (suc k) rs h)
 
-pub lowest-mask : (x k : ℕ) (rs : List ℕ) → x < responseBits
-    → lowest (selected (1 * 2 ^ x % 2 ^ responseBits) (1 * 2 ^ x % 2 ^ responseBits)) k rs ≡ lowest (has x) k rs
-lowest-mask x k rs h = rw (shifted x h) (lowest-like _ (has x) k rs (λ r. selected-has x r h))
+pub lowest-mask : (x : ResponseBit) (k : ℕ) (rs : List ℕ) → x .0 < responseBits
+    → lowest (selected (1 * 2 ^ x .0 % 2 ^ responseBits) (1 * 2 ^ x .0 % 2 ^ responseBits)) k rs ≡ lowest (has x) k rs
+lowest-mask x k rs h = rw (shifted (x .0) h) (lowest-like _ (has x) k rs (λ r. selected-has x r h))
 
 -- ---- one bit put, as a mask
 
@@ -100,46 +101,46 @@ mask-test x i =
     else : (i ≡ x → ⊥) → eqb (bit (2 ^ x) i) 1 ≡ eqb i x
     else z = ap (λ (b : ℕ). eqb b 1) (mask-else x i z) ∙ sym (ne-eqb i x z)
 
-put-marked : (x : ℕ) (b : Bool) (r : ℕ) → put x (digit b) r ≡ marked (2 ^ x) b r
+put-marked : (x : ResponseBit) (b : Bool) (r : ℕ) → put x (digit b) r ≡ marked (2 ^ x .0) b r
 unfolding put marked
 put-marked x b r =
-    number-like responseBits _ _ (λ i g. ap (λ (t : Bool). pick t (digit b) (bit r i)) (sym (mask-test x i)))
+    number-like responseBits _ _ (λ i g. ap (λ (t : Bool). pick t (digit b) (bit r i)) (sym (mask-test (x .0) i)))
 
-pub cleared : (x r : ℕ) → x < responseBits → r < 2 ^ responseBits → put x 0 r ≡ bitAnd r (2 ^ responseBits - 1 - 2 ^ x)
-cleared x r h g = put-marked x false r ∙ marked-is (2 ^ x) false r g (pow-lt h)
+pub cleared : (x : ResponseBit) (r : ℕ) → x .0 < responseBits → r < 2 ^ responseBits → put x 0 r ≡ bitAnd r (2 ^ responseBits - 1 - 2 ^ x .0)
+cleared x r h g = put-marked x false r ∙ marked-is (2 ^ x .0) false r g (pow-lt h)
 
-pub raised : (x r : ℕ) → x < responseBits → r < 2 ^ responseBits → put x 1 r ≡ bitOr r (2 ^ x)
-raised x r h g = put-marked x true r ∙ marked-is (2 ^ x) true r g (pow-lt h)
+pub raised : (x : ResponseBit) (r : ℕ) → x .0 < responseBits → r < 2 ^ responseBits → put x 1 r ≡ bitOr r (2 ^ x .0)
+raised x r h g = put-marked x true r ∙ marked-is (2 ^ x .0) true r g (pow-lt h)
 
-put-digit : (x v r j : ℕ) → v < 2 → pick (eqb j x) v (bit r j) < 2
-put-digit x v r j h = go (eqb j x)
+put-digit : (x : ResponseBit) (v r j : ℕ) → v < 2 → pick (eqb j (x .0)) v (bit r j) < 2
+put-digit x v r j h = go (eqb j (x .0))
   where
     go : (b : Bool) → pick b v (bit r j) < 2
     go true = h
     go false = bit-lt (digit-at r j)
 
-pub put-lt : (x v r : ℕ) → v < 2 → put x v r < 2 ^ responseBits
+pub put-lt : (x : ResponseBit) (v r : ℕ) → v < 2 → put x v r < 2 ^ responseBits
 unfolding put
 put-lt x v r h = number-lt responseBits _ (λ j g. put-digit x v r j h)
 
 -- an answer, by masks
-pub done-mask : (x f r : ℕ) → x < responseBits → r < 2 ^ responseBits
-    → bitAnd r (2 ^ responseBits - 1 - 1 * 2 ^ x % 2 ^ responseBits) ≡ answered x f Done r
-done-mask x f r h g = ap (λ (t : ℕ). bitAnd r (2 ^ responseBits - 1 - t)) (shifted x h) ∙ sym (cleared x r h g)
+pub done-mask : (x f : ResponseBit) (r : ℕ) → x .0 < responseBits → r < 2 ^ responseBits
+    → bitAnd r (2 ^ responseBits - 1 - 1 * 2 ^ x .0 % 2 ^ responseBits) ≡ answered x f Done r
+done-mask x f r h g = ap (λ (t : ℕ). bitAnd r (2 ^ responseBits - 1 - t)) (shifted (x .0) h) ∙ sym (cleared x r h g)
 
-pub faulty-mask : (x f r : ℕ) → x < responseBits → f < responseBits → r < 2 ^ responseBits
-    → bitOr (bitAnd r (2 ^ responseBits - 1 - 1 * 2 ^ x % 2 ^ responseBits)) (1 * 2 ^ f % 2 ^ responseBits) ≡ answered x f Faulty r
+pub faulty-mask : (x f : ResponseBit) (r : ℕ) → x .0 < responseBits → f .0 < responseBits → r < 2 ^ responseBits
+    → bitOr (bitAnd r (2 ^ responseBits - 1 - 1 * 2 ^ x .0 % 2 ^ responseBits)) (1 * 2 ^ f .0 % 2 ^ responseBits) ≡ answered x f Faulty r
 faulty-mask x f r h k g =
-    ap₂ bitOr (done-mask x f r h g) (shifted f k) ∙ sym (raised f (put x 0 r) k (put-lt x 0 r (omega arith)))
+    ap₂ bitOr (done-mask x f r h g) (shifted (f .0) k) ∙ sym (raised f (put x 0 r) k (put-lt x 0 r (omega arith)))
 
 -- ---- the bits of a response with one bit put
 
-pub put-bit : (x v r i : ℕ) → v < 2 → i < responseBits → bit (put x v r) i ≡ pick (eqb i x) v (bit r i)
+pub put-bit : (x : ResponseBit) (v r i : ℕ) → v < 2 → i < responseBits → bit (put x v r) i ≡ pick (eqb i (x .0)) v (bit r i)
 unfolding put
 put-bit x v r i h g = number-bit responseBits _ i (λ j l. put-digit x v r j h) g
 
-pub put-here : (x v r : ℕ) → v < 2 → x < responseBits → bit (put x v r) x ≡ v
-put-here x v r h g = put-bit x v r x h g ∙ ap (λ (t : Bool). pick t v (bit r x)) (eq-eqb x x refl)
+pub put-here : (x : ResponseBit) (v r : ℕ) → v < 2 → x .0 < responseBits → bit (put x v r) (x .0) ≡ v
+put-here x v r h g = put-bit x v r (x .0) h g ∙ ap (λ (t : Bool). pick t v (bit r (x .0))) (eq-eqb (x .0) (x .0) refl)
 
-pub put-else : (x v r i : ℕ) → v < 2 → i < responseBits → (i ≡ x → ⊥) → bit (put x v r) i ≡ bit r i
-put-else x v r i h g z = put-bit x v r i h g ∙ ap (λ (t : Bool). pick t v (bit r i)) (ne-eqb i x z)
+pub put-else : (x : ResponseBit) (v r i : ℕ) → v < 2 → i < responseBits → (i ≡ x .0 → ⊥) → bit (put x v r) i ≡ bit r i
+put-else x v r i h g z = put-bit x v r i h g ∙ ap (λ (t : Bool). pick t v (bit r i)) (ne-eqb i (x .0) z)

@@ -7,6 +7,7 @@ use native.Mathlib.Omega.{arith}
 use lib.ListN.{length, getD, drop, set}
 use Rattle.laws.specs.Bits.{pick}
 use Rattle.machine.specs.declared.WordSlice.{WordSlice}
+use Rattle.machine.specs.declared.ResponseBit.{ResponseBit}
 use Rattle.machine.specs.declared.Found.the-variants.{At}
 use Rattle.machine.specs.Resolution.{lowest}
 use Rattle.resolver.specs.Answers.{LowestAt}
@@ -14,7 +15,7 @@ use Rattle.rounds.specs.Round.{has}
 use Rattle.rounds.specs.Handout.{numbersWith, firstOf}
 
 -- the lowest word is the first responder
-pub first-lowest : (x k : ℕ) (rs : List ℕ) → lowest (has x) k rs ≡ firstOf (numbersWith x k rs)
+pub first-lowest : (x : ResponseBit) (k : ℕ) (rs : List ℕ) → lowest (has x) k rs ≡ firstOf (numbersWith x k rs)
 unfolding lowest numbersWith
 first-lowest x k [] = refl
 first-lowest x k (r ∷ rs) = go (has x r) (first-lowest x (suc k) rs)
@@ -25,7 +26,7 @@ first-lowest x k (r ∷ rs) = go (has x r) (first-lowest x (suc k) rs)
     go false h = h
 
 -- the lowest word, made to lose X, is the first responder taken off
-pub first-off : (x k i b : ℕ) (rs : List ℕ) → LowestAt (has x) rs i → has x b ≡ false → numbersWith x k (set rs i b) ≡ drop 1 (numbersWith x k rs)
+pub first-off : (x : ResponseBit) (k i b : ℕ) (rs : List ℕ) → LowestAt (has x) rs i → has x b ≡ false → numbersWith x k (set rs i b) ≡ drop 1 (numbersWith x k rs)
 unfolding numbersWith
 first-off x k i b [] l h = refl
 first-off x k zero b (r ∷ rs) l h = rw (h, l .passes)

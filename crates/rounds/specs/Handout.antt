@@ -5,6 +5,7 @@ use mathlib.Core.List.{List, [], _∷_, _++_}
 use lib.ListN.{getD}
 use Rattle.laws.specs.Bits.{pick}
 use Rattle.machine.specs.declared.WordSlice.{WordSlice}
+use Rattle.machine.specs.declared.ResponseBit.{ResponseBit}
 use Rattle.machine.specs.declared.Found.{Found}
 use Rattle.machine.specs.declared.Found.the-variants.{At, Nothing}
 use Rattle.machine.specs.declared.Check.the-variants.{Passed}
@@ -14,16 +15,16 @@ use Rattle.rounds.specs.declared.Verdict.{Verdict}
 use Rattle.rounds.specs.Round.{has, answerCheck, afterAnswer}
 
 -- the numbers, counted from k, of the words that have bit x, in rising order
-unfoldable pub numbersWith : ℕ → ℕ → List ℕ → List ℕ
+unfoldable pub numbersWith : ResponseBit → ℕ → List ℕ → List ℕ
 numbersWith x k [] = []
 numbersWith x k (r ∷ rs) = pick (has x r) (k ∷ numbersWith x (suc k) rs) (numbersWith x (suc k) rs)
 
 -- a machine's responders: the words that have X
-abbrev pub responders : ℕ → Machine → List ℕ
+abbrev pub responders : ResponseBit → Machine → List ℕ
 responders x m = numbersWith x 0 (m .responses)
 
 -- responder i, counted from 0
-abbrev pub responder : ℕ → Machine → ℕ → ℕ
+abbrev pub responder : ResponseBit → Machine → ℕ → ℕ
 responder x m i = getD (responders x m) i 0
 
 -- word j is none of the first n of a list of words
@@ -37,7 +38,7 @@ firstOf (k ∷ ks) = At (record { 0 = k })
 
 -- `Answers x f m vs n`: from the machine m, answers with the verdicts vs, in this order, were accepted, and n is the machine now.
 -- Each answer may be for any word: 11 judges it
-pub data Answers (x f : ℕ) (m : Machine) : List Verdict → Machine → Type 0 where
+pub data Answers (x f : ResponseBit) (m : Machine) : List Verdict → Machine → Type 0 where
   none-yet : Answers x f m [] m
   one-more : {vs : List Verdict} {n : Machine} (k : WordSlice) (v : Verdict) → Answers x f m vs n → answerCheck x f k n ≡ Passed
       → Answers x f m (vs ++ (v ∷ [])) (afterAnswer x f k v n)

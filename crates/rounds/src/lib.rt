@@ -4,6 +4,7 @@ use machine::Check;
 use machine::Found;
 use machine::Refusal;
 use machine::Response;
+use machine::ResponseBit;
 use machine::WordSlice;
 use resolver::Resolved;
 ghost use mathlib.Core.Path.{_≡_};
@@ -11,7 +12,7 @@ ghost use Prim.Native.Nat.{_<_};
 ghost use lib.ListN.{length, set};
 ghost use Rattle.machine.specs.Machine.{machine, responseBits};
 ghost use Rattle.machine.specs.Resolution.{lowest};
-ghost use Rattle.rounds.specs.Round.{has, answered, noBit, badBits, otherThan, bitsCheck, answerCheck, showOf, replyOf, afterAnswer};
+ghost use Rattle.rounds.specs.Round.{has, answered, showCheck, pairCheck, roundCheck, otherThan, answerCheck, showOf, replyOf, afterAnswer};
 
 // What the host says of a word that it was shown.
 pub enum Verdict {
@@ -27,18 +28,35 @@ pub enum Reply {
 
 // ---- the checks, in the table's order
 
-// 8: "a response bit above 7".
-fn no_bit(x: u32) -> bool
-    ensures { λ r. ⌜ r ≡ noBit x ⌝ }
+fn check_show(words: &[u64], responses: &[Response], width: u32, x: ResponseBit) -> Check
+    ensures { λ r. ⌜ r ≡ showCheck x (machine width (now (words .entry)) (now (responses .entry))) ⌝ }
 {
-    machine::RESPONSE_BITS <= x
+    let sound = machine::check_machine(words, responses, width);
+    machine::in_order(sound, machine::check_bit(x))
 }
 
-// 8, for an answer.
-pub fn bad_bits(x: u32, f: u32) -> bool
-    ensures { λ r. ⌜ r ≡ badBits x f ⌝ }
+// 8, of an answer.
+fn check_pair(x: ResponseBit, f: ResponseBit) -> Check
+    ensures { λ r. ⌜ r ≡ pairCheck x f ⌝ }
 {
-    no_bit(x) | no_bit(f) | (x == f)
+    machine::in_order(
+        machine::check_bit(x),
+        machine::in_order(machine::check_bit(f), machine::check_apart(x, f)),
+    )
+}
+
+// All but 11: what a whole round is checked for before its first show.
+pub fn check_round(
+    words: &[u64],
+    responses: &[Response],
+    width: u32,
+    x: ResponseBit,
+    f: ResponseBit,
+) -> Check
+    ensures { λ r. ⌜ r ≡ roundCheck x f (machine width (now (words .entry)) (now (responses .entry))) ⌝ }
+{
+    let sound = machine::check_machine(words, responses, width);
+    machine::in_order(sound, check_pair(x, f))
 }
 
 // 11: "answer for a word other than the one show would give now".
@@ -51,51 +69,32 @@ fn other_than(word: WordSlice, found: Found) -> bool
     }
 }
 
-// 1 to 3, then 8 if the bits that the call is given are unfit.
-pub fn check_bits(words: &[u64], responses: &[Response], width: u32, unfit: bool) -> Check
-    ensures { λ r. ⌜ r ≡ bitsCheck unfit (machine width (now (words .entry)) (now (responses .entry))) ⌝ }
-{
-    let check = machine::check_machine(words, responses, width);
-    match check {
-        Check::Refused(why) => Check::Refused(why),
-        Check::Passed => {
-            if unfit {
-                Check::Refused(Refusal::Unfit)
-            } else {
-                Check::Passed
-            }
-        }
-    }
-}
-
 // The lowest word with bit X: resolution with X as key and care.
-fn lowest_with(responses: &[Response], x: u32) -> Found
-    requires { ⌜ x < responseBits ⌝ }
+fn lowest_with(responses: &[Response], x: ResponseBit) -> Found
+    requires { ⌜ x .0 < responseBits ⌝ }
     ensures { λ r. ⌜ r ≡ lowest (has x) 0 (now (responses .entry)) ⌝ }
 {
-    let mark: Response = 1 << x;
+    let mark: Response = 1 << x.0;
     resolver::lowest_selected(responses, mark, mark)
 }
 
+// The word shown is looked for only where X is a response bit.
 fn check_answer(
     words: &[u64],
     responses: &[Response],
     width: u32,
-    x: u32,
-    f: u32,
+    x: ResponseBit,
+    f: ResponseBit,
     word: WordSlice,
 ) -> Check
     ensures { λ r. ⌜ r ≡ answerCheck x f word (machine width (now (words .entry)) (now (responses .entry))) ⌝ }
 {
-    let check = check_bits(words, responses, width, bad_bits(x, f));
+    let check = check_round(words, responses, width, x, f);
     match check {
         Check::Refused(why) => Check::Refused(why),
         Check::Passed => {
-            if other_than(word, lowest_with(responses, x)) {
-                Check::Refused(Refusal::NotShown)
-            } else {
-                Check::Passed
-            }
+            let shown = lowest_with(responses, x);
+            machine::refuse(Refusal::NotShown, other_than(word, shown))
         }
     }
 }
@@ -103,10 +102,10 @@ fn check_answer(
 // ---- show and answer
 
 // "Show answers the lowest word with response bit X, or none; it changes nothing."
-pub fn show(words: &[u64], responses: &[Response], width: u32, x: u32) -> Resolved
+pub fn show(words: &[u64], responses: &[Response], width: u32, x: ResponseBit) -> Resolved
     ensures { λ r. ⌜ r ≡ showOf x (machine width (now (words .entry)) (now (responses .entry))) ⌝ }
 {
-    let check = check_bits(words, responses, width, no_bit(x));
+    let check = check_show(words, responses, width, x);
     match check {
         Check::Refused(why) => Resolved::Refused(why),
         Check::Passed => resolver::as_resolved(lowest_with(responses, x)),
@@ -114,12 +113,12 @@ pub fn show(words: &[u64], responses: &[Response], width: u32, x: u32) -> Resolv
 }
 
 // 'Answer "done" for the shown word clears its X. Answer "faulty" clears its X and sets its F.'
-fn judged(response: Response, x: u32, f: u32, verdict: Verdict) -> Response
-    requires { ⌜ (x < responseBits) × (f < responseBits) ⌝ }
+fn judged(response: Response, x: ResponseBit, f: ResponseBit, verdict: Verdict) -> Response
+    requires { ⌜ (x .0 < responseBits) × (f .0 < responseBits) ⌝ }
     ensures { λ r. ⌜ r ≡ answered x f verdict response ⌝ }
 {
-    let mark: Response = 1 << x;
-    let fault: Response = 1 << f;
+    let mark: Response = 1 << x.0;
+    let fault: Response = 1 << f.0;
     match verdict {
         Verdict::Done => response & !mark,
         Verdict::Faulty => (response & !mark) | fault,
@@ -138,8 +137,8 @@ pub fn answer(
     words: &[u64],
     responses: &mut [Response],
     width: u32,
-    x: u32,
-    f: u32,
+    x: ResponseBit,
+    f: ResponseBit,
     word: WordSlice,
     verdict: Verdict,
 ) -> Reply

@@ -7,14 +7,8 @@ use Rattle.rounds.proofs.Marks.{done-mask, faulty-mask}
 use Rattle.rounds.proofs.judged.Statement.{statement}
 use Rattle.rounds.proofs.judged.Tie as tie
 
-cast-mark : tie.Need-cast-mark
-cast-mark c = search needs
-
 shl-mark : tie.Need-shl-mark
 shl-mark c = search needs
-
-cast-fault : tie.Need-cast-fault
-cast-fault c = search needs
 
 shl-fault : tie.Need-shl-fault
 shl-fault c = search needs
@@ -27,17 +21,17 @@ enum-told-2 c = search needs
 
 returns : tie.Need-returns
 returns c =
-    let a = c .before .before .args in
+    let a = c .before .before .before .before .args in
     done-mask (a .x) (a .f) (a .response) (search needs) (search needs)
     ∙ ap (λ (v : Verdict). answered (a .x) (a .f) v (a .response)) (sym (c .enum-told .given .1))
 
 returns-2 : tie.Need-returns-2
 returns-2 c =
-    let a = c .before .before .args in
+    let a = c .before .before .before .before .args in
     faulty-mask (a .x) (a .f) (a .response) (search needs) (search needs) (search needs)
     ∙ ap (λ (v : Verdict). answered (a .x) (a .f) v (a .response)) (sym (c .enum-told2 .given .1))
 
 pub judged-spec : {M : Type 1} → statement M
 judged-spec =
     tie.close
-    (tie.spec cast-mark shl-mark cast-fault shl-fault enum-told enum-told-2 returns returns-2)
+    (tie.spec shl-mark shl-fault enum-told enum-told-2 returns returns-2)

@@ -5,9 +5,6 @@ use Rattle.rounds.proofs.Marks.{lowest-mask}
 use Rattle.rounds.proofs.lowest_with.Statement.{statement}
 use Rattle.rounds.proofs.lowest_with.Tie as tie
 
-cast-mark : tie.Need-cast-mark
-cast-mark c = search needs
-
 shl-mark : tie.Need-shl-mark
 shl-mark c = search needs
 
@@ -16,8 +13,8 @@ lowest-selected-requires c κs = search needs
 
 returns : tie.Need-returns
 returns c =
-    let a = c .before .before .args in
+    let a = c .before .before .before .args in
     c .lowest-selected .ensures ∙ lowest-mask (a .x) 0 (a .responses .now) (search needs)
 
 pub lowest-with-spec : {M : Type 1} → statement M
-lowest-with-spec = tie.close (tie.spec cast-mark shl-mark lowest-selected-requires returns)
+lowest-with-spec = tie.close (tie.spec shl-mark lowest-selected-requires returns)
