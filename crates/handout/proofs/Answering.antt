@@ -6,6 +6,7 @@ use mathlib.Core.List.{List}
 use native.Mathlib.Omega.{arith}
 use lib.ListN.{getD, set}
 use Rattle.laws.specs.Bits.{pick, digit}
+use Rattle.machine.specs.declared.ResponseBit.{ResponseBit}
 use Rattle.resolver.specs.Answers.{LowestAt}
 use Rattle.rounds.specs.Round.{has, answered}
 use Rattle.rounds.specs.Round.{Fit}
@@ -22,10 +23,10 @@ and-true true b h = refl
 and-true false b h = absurd (let z : _≡_ {A = ℕ} 0 1 = cc in omega arith)
 
 -- word i's response after an answer
-abbrev pub stored : ℕ → ℕ → List ℕ → ℕ → Bool → ℕ
+abbrev pub stored : ResponseBit → ResponseBit → List ℕ → ℕ → Bool → ℕ
 stored x f rs i t = answered x f (verdictBy t) (getD rs i 0)
 
-module _ (x f : ℕ) (vs rs : List ℕ) (i : ℕ) (t : Bool) (h : Fit x f) (l : LowestAt (has x) rs i) (says : t ≡ saysDone vs i) where
+module _ (x f : ResponseBit) (vs rs : List ℕ) (i : ℕ) (t : Bool) (h : Fit x f) (l : LowestAt (has x) rs i) (says : t ≡ saysDone vs i) where
   off : has x (stored x f rs i t) ≡ false
   off = lost x f (verdictBy t) (getD rs i 0) h
 

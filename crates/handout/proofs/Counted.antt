@@ -6,6 +6,7 @@ use mathlib.Core.List.{List, [], _∷_}
 use native.Mathlib.Omega.{arith}
 use lib.ListN.{length}
 use Rattle.laws.specs.Bits.{pick, digit}
+use Rattle.machine.specs.declared.ResponseBit.{ResponseBit}
 use Rattle.rounds.specs.Round.{has}
 use Rattle.rounds.specs.Handout.{numbersWith}
 use Rattle.handout.specs.Whole.{saysDone, tally, isDone, isFaulty}
@@ -15,7 +16,7 @@ once true true m n k h = omega arith
 once true false m n k h = omega arith
 once false b m n k h = omega arith
 
-pub each-once : (x k : ℕ) (vs rs : List ℕ) → tally (isDone x vs) k rs + tally (isFaulty x vs) k rs ≡ length (numbersWith x k rs)
+pub each-once : (x : ResponseBit) (k : ℕ) (vs rs : List ℕ) → tally (isDone x vs) k rs + tally (isFaulty x vs) k rs ≡ length (numbersWith x k rs)
 unfolding tally numbersWith
 each-once x k vs [] = refl
 each-once x k vs (r ∷ rs) =

@@ -2,6 +2,7 @@
 use Prim.Native.Nat.{ℕ}
 use mathlib.Core.Path.{_≡_, sym, ap, _∙_}
 use mathlib.Core.List.{List}
+use Rattle.machine.specs.declared.ResponseBit.{ResponseBit}
 use Rattle.machine.specs.declared.Refusal.{Refusal}
 use Rattle.machine.specs.declared.Check.{Check}
 use Rattle.machine.specs.declared.Check.the-variants.{Passed, Refused}
@@ -9,9 +10,10 @@ use Rattle.machine.specs.Machine.{Machine}
 use Rattle.machine.specs.Refusals.{answerBy, changeBy}
 use Rattle.handout.specs.declared.Report.{Report}
 use Rattle.handout.specs.declared.Report.the-variants as report
-use Rattle.handout.specs.Whole.{roundCheck, ended, afterEnded, reportOf, afterRound}
+use Rattle.rounds.specs.Round.{roundCheck}
+use Rattle.handout.specs.Whole.{ended, afterEnded, reportOf, afterRound}
 
-module _ (x f : ℕ) (vs : List ℕ) (m : Machine) (c : Check) (h : c ≡ roundCheck x f m) where
+module _ (x f : ResponseBit) (vs : List ℕ) (m : Machine) (c : Check) (h : c ≡ roundCheck x f m) where
   pub round-refused : (r : Refusal) → c ≡ Refused r → (report.Refused r ≡ reportOf x f vs m) × (m .responses ≡ afterRound x f vs m .responses)
   unfolding reportOf afterRound
   round-refused r g = (

@@ -7,14 +7,15 @@ use mathlib.Core.List.{List, [], _∷_, map}
 use lib.ListN.{length, getD, drop, length-set}
 use Rattle.laws.specs.Bits.{pick}
 use Rattle.machine.specs.declared.WordSlice.{WordSlice}
+use Rattle.machine.specs.declared.ResponseBit.{ResponseBit}
 use Rattle.machine.specs.declared.Check.{Check}
 use Rattle.machine.specs.declared.Check.the-variants.{Passed}
 use Rattle.machine.specs.Machine.{Machine, machine}
 use Rattle.machine.specs.Refusals.{changeBy}
 use Rattle.resolver.proofs.Lowest.{none-exactly}
 use Rattle.rounds.specs.declared.Verdict.{Verdict}
-use Rattle.rounds.specs.Round.{has, shown, answered, answeredAt, badBits, answerCheck, afterAnswer}
-use Rattle.handout.specs.Whole.{saysDone, verdictOf, tally, worked, isDone, isFaulty, roundCheck, afterEnded}
+use Rattle.rounds.specs.Round.{has, shown, answered, answeredAt, roundCheck, answerCheck, afterAnswer}
+use Rattle.handout.specs.Whole.{saysDone, verdictOf, tally, worked, isDone, isFaulty, afterEnded}
 use Rattle.rounds.specs.Handout.{responders, firstOf, Answers, none-yet, one-more}
 use Rattle.rounds.proofs.Passing.{accepted, acceptable}
 use Rattle.rounds.proofs.Answering.{lost, same-checks}
@@ -24,12 +25,12 @@ use Rattle.rounds.proofs.Responders.{first-lowest, first-off}
 use Rattle.handout.proofs.Counted.{each-once}
 
 -- an answer before the others
-pub one-before : {x f : ℕ} {n e : Machine} {us : List Verdict} (k : WordSlice) (v : Verdict) (m : Machine)
+pub one-before : {x f : ResponseBit} {n e : Machine} {us : List Verdict} (k : WordSlice) (v : Verdict) (m : Machine)
     → answerCheck x f k m ≡ Passed → n ≡ afterAnswer x f k v m → Answers x f n us e → Answers x f m (v ∷ us) e
 one-before {x} {f} k v m h s none-yet = rw s (one-more k v none-yet h)
 one-before {x} {f} k v m h s (one-more j u t g) = one-more j u (one-before k v m h s t) g
 
-module _ (x f : ℕ) (vs : List ℕ) where
+module _ (x f : ResponseBit) (vs : List ℕ) where
   -- no responder is left: the round is at its end
   at-end : (n : Machine) → responders x n ≡ [] → afterEnded x f vs n ≡ n
   unfolding afterEnded
@@ -64,7 +65,7 @@ module _ (x f : ℕ) (vs : List ℕ) where
 
     next-passed : roundCheck x f next ≡ Passed
     unfolding next word
-    next-passed = same-checks (badBits x f) (n .width) (n .words) (n .responses) (next .responses) (length-set (n .responses) k _) ∙ p
+    next-passed = same-checks x f (n .width) (n .words) (n .responses) (next .responses) (length-set (n .responses) k _) ∙ p
 
     next-end : afterEnded x f vs next ≡ afterEnded x f vs n
     unfolding next word afterEnded

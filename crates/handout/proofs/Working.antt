@@ -9,26 +9,26 @@ use lib.ListN.{length, getD, set, length-set}
 use denote.Enum.Declared.{tagOf}
 use Rattle.laws.specs.Bits.{pick, digit}
 use Rattle.machine.specs.declared.WordSlice.{WordSlice}
+use Rattle.machine.specs.declared.ResponseBit.{ResponseBit}
 use Rattle.machine.specs.declared.Found.{Found}
 use Rattle.machine.specs.declared.Found.the-variants.{At, Nothing}
-use Rattle.machine.specs.declared.Refusal.the-variants.{Unfit}
 use Rattle.machine.specs.declared.Check.{Check}
 use Rattle.machine.specs.declared.Check.the-variants.{Passed}
 use Rattle.machine.specs.Machine.{Machine, machine}
-use Rattle.machine.specs.Refusals.{machineCheck, refuse, answerBy, changeBy}
+use Rattle.machine.specs.Refusals.{answerBy, changeBy}
 use Rattle.resolver.specs.declared.Resolved.{Resolved}
 use Rattle.resolver.specs.declared.Resolved.the-variants as resolved
 use Rattle.resolver.specs.Answers.{asResolved}
 use Rattle.resolver.proofs.Resolved.{the-type}
 use Rattle.resolver.proofs.Lowest.{none-exactly}
-use Rattle.resolver.proofs.Sizes.{sized, first-passed}
+use Rattle.resolver.proofs.Sizes.{sized}
 use Rattle.rounds.specs.declared.Verdict.{Verdict}
 use Rattle.rounds.specs.declared.Reply.{Reply}
 use Rattle.rounds.specs.declared.Reply.the-variants as reply
 use Rattle.handout.specs.declared.Report.the-variants as report
-use Rattle.rounds.specs.Round.{has, shown, answered, answeredAt, noBit, badBits, bitsCheck, answerCheck, showOf, replyOf, afterAnswer}
-use Rattle.handout.specs.Whole.{saysDone, verdictBy, isTaken, each, tally, worked, isDone, isFaulty, ended, afterEnded, roundCheck}
-use Rattle.rounds.proofs.Passing.{accepted, acceptable, show-passes}
+use Rattle.rounds.specs.Round.{has, shown, answered, answeredAt, showCheck, roundCheck, answerCheck, showOf, replyOf, afterAnswer}
+use Rattle.handout.specs.Whole.{saysDone, verdictBy, isTaken, each, tally, worked, isDone, isFaulty, ended, afterEnded}
+use Rattle.rounds.proofs.Passing.{round-parts, accepted, acceptable, show-passes}
 use Rattle.handout.proofs.Lists.{each-all, tally-all, tally-few}
 use Rattle.rounds.proofs.Answering.{same-checks}
 use Rattle.handout.proofs.Answering.{and-false, stored, answer-whole, answer-done, answer-faulty}
@@ -46,12 +46,12 @@ told-none (At j) s h (inl e) = absurd (let z : tagOf the-type s ≡ 0 = ap (tagO
 told-none (At j) s h (inr e) = absurd (let z : tagOf the-type s ≡ 0 = ap (tagOf the-type) h in omega arith)
 told-none Nothing s h e = refl
 
-not-turned-down : (x : ℕ) (m : Machine) (s : Resolved) → bitsCheck (noBit x) m ≡ Passed → s ≡ showOf x m → s ≡ asResolved (shown x m)
+not-turned-down : (x : ResponseBit) (m : Machine) (s : Resolved) → showCheck x m ≡ Passed → s ≡ showOf x m → s ≡ asResolved (shown x m)
 unfolding showOf
 not-turned-down x m s p h = h ∙ ap (λ (c : Check). answerBy c resolved.Refused (asResolved (shown x m))) p
 
 -- ---- the state of the loop
-pub record Working (x f : ℕ) (vs : List ℕ) (n : ℕ) (ws rs₀ rs : List ℕ) (done faulty : ℕ) : Type 0 where
+pub record Working (x f : ResponseBit) (vs : List ℕ) (n : ℕ) (ws rs₀ rs : List ℕ) (done faulty : ℕ) : Type 0 where
   pub passed : roundCheck x f (machine n ws rs) ≡ Passed
   pub same : length rs ≡ length rs₀
   pub whole : each (worked x f vs) 0 rs ≡ each (worked x f vs) 0 rs₀
@@ -59,11 +59,11 @@ pub record Working (x f : ℕ) (vs : List ℕ) (n : ℕ) (ws rs₀ rs : List ℕ
   pub faults : faulty + tally (isFaulty x vs) 0 rs ≡ tally (isFaulty x vs) 0 rs₀
 
 -- how many are left: it falls with each answer
-abbrev pub left : ℕ → List ℕ → List ℕ → ℕ
+abbrev pub left : ResponseBit → List ℕ → List ℕ → ℕ
 left x vs rs = tally (isDone x vs) 0 rs + tally (isFaulty x vs) 0 rs
 
 -- after a turn: the state, with the new responses qs and counts; the answer was taken; fewer are left
-pub record Turned (x f : ℕ) (vs : List ℕ) (n : ℕ) (ws rs₀ rs qs : List ℕ) (done faulty : ℕ) (taken : Bool) : Type 0 where
+pub record Turned (x f : ResponseBit) (vs : List ℕ) (n : ℕ) (ws rs₀ rs qs : List ℕ) (done faulty : ℕ) (taken : Bool) : Type 0 where
   pub next : Working x f vs n ws rs₀ qs done faulty
   pub again : taken ≡ true
   pub falls : left x vs qs < left x vs rs
@@ -72,15 +72,14 @@ one-less : (t : Bool) (a b : ℕ) {c d : ℕ} → a + digit t ≡ c → b + digi
 one-less true a b h g = omega arith
 one-less false a b h g = omega arith
 
-pub start : (x f : ℕ) (vs : List ℕ) (n : ℕ) (ws rs : List ℕ) → roundCheck x f (machine n ws rs) ≡ Passed → Working x f vs n ws rs rs 0 0
+pub start : (x f : ResponseBit) (vs : List ℕ) (n : ℕ) (ws rs : List ℕ) → roundCheck x f (machine n ws rs) ≡ Passed → Working x f vs n ws rs rs 0 0
 start x f vs n ws rs h = record { passed = h; same = refl; whole = refl; dones = omega arith; faults = omega arith }
 
-module _ {x f : ℕ} {vs : List ℕ} {n : ℕ} {ws rs₀ rs : List ℕ} {done faulty : ℕ} (w : Working x f vs n ws rs₀ rs done faulty) where
+module _ {x f : ResponseBit} {vs : List ℕ} {n : ℕ} {ws rs₀ rs : List ℕ} {done faulty : ℕ} (w : Working x f vs n ws rs₀ rs done faulty) where
   -- the counts fit
   pub few : (done ≤ 1024) × (faulty ≤ 1024)
-  unfolding bitsCheck
   few =
-      let s = sized (machine n ws rs) (first-passed (machineCheck (machine n ws rs)) (refuse Unfit (badBits x f)) (w .passed)) in
+      let s = sized (machine n ws rs) (round-parts x f (machine n ws rs) (w .passed) .0) in
       (omega (arith, s .few, w .dones, w .same, tally-few (isDone x vs) 0 rs₀), omega (arith, s .few, w .faults, w .same, tally-few (isFaulty x vs) 0 rs₀))
 
   showable : (s : Resolved) → s ≡ showOf x (machine n ws rs) → s ≡ asResolved (shown x (machine n ws rs))
@@ -118,7 +117,7 @@ module _ {x f : ℕ} {vs : List ℕ} {n : ℕ} {ws rs₀ rs : List ℕ} {done fa
       step =
           let a = accepted x f k (machine n ws rs) check in
           record {
-            passed = same-checks (badBits x f) n ws rs qs same-length ∙ w .passed;
+            passed = same-checks x f n ws rs qs same-length ∙ w .passed;
             same = same-length ∙ w .same;
             whole = ap (each (worked x f vs) 0) changed ∙ answer-whole x f vs rs (k .0) t (a .fit) (a .low) says ∙ w .whole;
             dones = omega (arith, fewer-done, w .dones);

@@ -5,7 +5,7 @@ use mathlib.Core.List.{List, [], _∷_}
 use lib.Dec.{eqb}
 use lib.ListN.{getD}
 use Rattle.laws.specs.Bits.{pick, digit}
-use Rattle.machine.specs.declared.Check.{Check}
+use Rattle.machine.specs.declared.ResponseBit.{ResponseBit}
 use Rattle.machine.specs.Machine.{Machine, machine}
 use Rattle.machine.specs.Refusals.{answerBy, changeBy, numberOf, alsoAnswers}
 use Rattle.rounds.specs.declared.Verdict.{Verdict}
@@ -14,7 +14,7 @@ use Rattle.rounds.specs.declared.Reply.{Reply}
 use Rattle.rounds.specs.declared.Reply.the-variants as reply
 use Rattle.handout.specs.declared.Report.{Report}
 use Rattle.handout.specs.declared.Report.the-variants as report
-use Rattle.rounds.specs.Round.{has, answered, badBits, bitsCheck}
+use Rattle.rounds.specs.Round.{has, answered, roundCheck}
 
 -- ---- the verdicts, by word number
 
@@ -45,30 +45,27 @@ unfoldable pub tally : (ℕ → ℕ → Bool) → ℕ → List ℕ → ℕ
 tally test k [] = 0
 tally test k (r ∷ rs) = digit (test k r) + tally test (suc k) rs
 
-abbrev pub worked : ℕ → ℕ → List ℕ → ℕ → ℕ → ℕ
+abbrev pub worked : ResponseBit → ResponseBit → List ℕ → ℕ → ℕ → ℕ
 worked x f vs k r = pick (has x r) (answered x f (verdictOf vs k) r) r
 
-abbrev pub isDone : ℕ → List ℕ → ℕ → ℕ → Bool
+abbrev pub isDone : ResponseBit → List ℕ → ℕ → ℕ → Bool
 isDone x vs k r = has x r && saysDone vs k
 
-abbrev pub isFaulty : ℕ → List ℕ → ℕ → ℕ → Bool
+abbrev pub isFaulty : ResponseBit → List ℕ → ℕ → ℕ → Bool
 isFaulty x vs k r = has x r && not (saysDone vs k)
 
-unfoldable pub ended : ℕ → List ℕ → Machine → Report
+unfoldable pub ended : ResponseBit → List ℕ → Machine → Report
 ended x vs m = report.Ended (tally (isDone x vs) 0 (m .responses)) (tally (isFaulty x vs) 0 (m .responses))
 
-unfoldable pub afterEnded : ℕ → ℕ → List ℕ → Machine → Machine
+unfoldable pub afterEnded : ResponseBit → ResponseBit → List ℕ → Machine → Machine
 afterEnded x f vs m = machine (m .width) (m .words) (each (worked x f vs) 0 (m .responses))
 
 -- ---- checked as an answer is, but for 11: only the word that is shown is ever answered
 
-abbrev pub roundCheck : ℕ → ℕ → Machine → Check
-roundCheck x f m = bitsCheck (badBits x f) m
-
-unfoldable pub reportOf : ℕ → ℕ → List ℕ → Machine → Report
+unfoldable pub reportOf : ResponseBit → ResponseBit → List ℕ → Machine → Report
 reportOf x f vs m = answerBy (roundCheck x f m) report.Refused (ended x vs m)
 
-unfoldable pub afterRound : ℕ → ℕ → List ℕ → Machine → Machine
+unfoldable pub afterRound : ResponseBit → ResponseBit → List ℕ → Machine → Machine
 afterRound x f vs m = changeBy (roundCheck x f m) (afterEnded x f vs m) m
 
 -- ---- each report's number and values; "other answer fields are 0"

@@ -3,20 +3,21 @@
 use machine::Check;
 use machine::Refusal;
 use machine::Response;
+use machine::ResponseBit;
 use machine::WordSlice;
 use resolver::Resolved;
 use rounds::Reply;
 use rounds::Verdict;
 use rounds::answer;
-use rounds::bad_bits;
-use rounds::check_bits;
+use rounds::check_round;
 use rounds::show;
 ghost use mathlib.Core.Path.{_≡_};
 ghost use Prim.Native.Nat.{_≤_};
 ghost use Rattle.laws.specs.Bits.{digit};
 ghost use Rattle.machine.specs.declared.Check.the-variants.{Passed};
 ghost use Rattle.machine.specs.Machine.{machine};
-ghost use Rattle.handout.specs.Whole.{saysDone, verdictBy, isTaken, roundCheck, ended, afterEnded, reportOf, afterRound};
+ghost use Rattle.rounds.specs.Round.{roundCheck};
+ghost use Rattle.handout.specs.Whole.{saysDone, verdictBy, isTaken, ended, afterEnded, reportOf, afterRound};
 
 // What a whole round comes to: how many words were answered done and how many faulty, or the refusal.
 pub enum Report {
@@ -64,8 +65,8 @@ fn work(
     words: &[u64],
     responses: &mut [Response],
     width: u32,
-    x: u32,
-    f: u32,
+    x: ResponseBit,
+    f: ResponseBit,
     verdicts: &[u8],
 ) -> Report
     requires { ⌜ roundCheck x f (machine width (now words) (now responses)) ≡ Passed ⌝ }
@@ -92,14 +93,14 @@ pub fn round(
     words: &[u64],
     responses: &mut [Response],
     width: u32,
-    x: u32,
-    f: u32,
+    x: ResponseBit,
+    f: ResponseBit,
     verdicts: &[u8],
 ) -> Report
     ensures { λ r. ⌜ r ≡ reportOf x f (now (verdicts .entry)) (machine width (now (words .entry)) (now (responses .entry))) ⌝ }
     ensures { λ _. ⌜ now (responses .exit) ≡ afterRound x f (now (verdicts .entry)) (machine width (now (words .entry)) (now (responses .entry))) .responses ⌝ }
 {
-    let check = check_bits(words, responses, width, bad_bits(x, f));
+    let check = check_round(words, responses, width, x, f);
     match check {
         Check::Refused(why) => Report::Refused(why),
         Check::Passed => work(words, responses, width, x, f, verdicts),
