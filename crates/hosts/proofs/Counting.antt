@@ -7,6 +7,7 @@ use native.Mathlib.Omega.{arith}
 use lib.ListN.{length, getD, take, drop}
 use borrow.Author.Tests.{eqb-true, eq-eqb}
 use Rattle.laws.specs.Bits.{bit, pick, digit}
+use Rattle.machine.specs.declared.ResponseBit.{ResponseBit}
 use Rattle.machine.specs.declared.Found.the-variants.{At, Nothing}
 use Rattle.machine.specs.Machine.{Machine}
 use Rattle.rounds.specs.Round.{has}
@@ -15,7 +16,7 @@ use Rattle.hosts.specs.Rounds.{Responder, lower}
 
 -- ---- the number at place i has i lower ones
 
-record Place (x j : ℕ) (rs : List ℕ) (i k : ℕ) : Type 0 where
+record Place (x : ResponseBit) (j : ℕ) (rs : List ℕ) (i k : ℕ) : Type 0 where
   pub offset : ℕ
   pub is : k ≡ j + offset
   pub within : offset < length rs
@@ -23,7 +24,7 @@ record Place (x j : ℕ) (rs : List ℕ) (i k : ℕ) : Type 0 where
   pub lower-ones : length (numbersWith x j (take offset rs)) ≡ i
 
 -- one word more below
-further : (x j r : ℕ) (rs : List ℕ) (d i k : ℕ) (t : Bool) → has x r ≡ t → digit t + d ≡ i → Place x (suc j) rs d k → Place x j (r ∷ rs) i k
+further : (x : ResponseBit) (j r : ℕ) (rs : List ℕ) (d i k : ℕ) (t : Bool) → has x r ≡ t → digit t + d ≡ i → Place x (suc j) rs d k → Place x j (r ∷ rs) i k
 unfolding numbersWith
 further x j r rs d i k t e q p = record {
   offset = suc (p .offset);
@@ -39,7 +40,7 @@ further x j r rs d i k t e q p = record {
     longer true false e ks h = let z : _≡_ {A = ℕ} 0 1 = cc in absurd (omega arith)
     longer false true e ks h = let z : _≡_ {A = ℕ} 0 1 = cc in absurd (omega arith)
 
-place : (x j : ℕ) (rs : List ℕ) (i : ℕ) → i < length (numbersWith x j rs) → Place x j rs i (getD (numbersWith x j rs) i 0)
+place : (x : ResponseBit) (j : ℕ) (rs : List ℕ) (i : ℕ) → i < length (numbersWith x j rs) → Place x j rs i (getD (numbersWith x j rs) i 0)
 unfolding numbersWith
 place x j [] i h = absurd (omega arith)
 place x j (r ∷ rs) i h = go (has x r) refl i h (λ d g. place x (suc j) rs d g)
@@ -54,7 +55,7 @@ place x j (r ∷ rs) i h = go (has x r) refl i h (λ d g. place x (suc j) rs d g
 
 -- ---- and a number with i lower ones is at place i
 
-back : (x j : ℕ) (rs : List ℕ) (k : ℕ) → k < length rs → has x (getD rs k 0) ≡ true
+back : (x : ResponseBit) (j : ℕ) (rs : List ℕ) (k : ℕ) → k < length rs → has x (getD rs k 0) ≡ true
     → (length (numbersWith x j (take k rs)) < length (numbersWith x j rs))
     × (getD (numbersWith x j rs) (length (numbersWith x j (take k rs))) 0 ≡ j + k)
 unfolding numbersWith
@@ -69,17 +70,17 @@ back x j (r ∷ rs) (suc k) h m = go (has x r) (numbersWith x (suc j) rs) (numbe
 
 -- ---- said of a machine
 
-pub responder-at : (x : ℕ) (m : Machine) (i : ℕ) → i < length (responders x m) → Responder x m (responder x m i) × (lower x m (responder x m i) ≡ i)
+pub responder-at : (x : ResponseBit) (m : Machine) (i : ℕ) → i < length (responders x m) → Responder x m (responder x m i) × (lower x m (responder x m i) ≡ i)
 responder-at x m i h =
     let p = place x 0 (m .responses) i h in
     let e : p .offset ≡ responder x m i = omega (arith, p .is) in (
-      record { within = rw e at (p .within); mark = rw e at (eqb-true (bit (response m (p .offset)) x) 1 (p .mark)) },
+      record { within = rw e at (p .within); mark = rw e at (eqb-true (bit (response m (p .offset)) (x .0)) 1 (p .mark)) },
       rw e at (p .lower-ones),
     )
 
-pub responder-is : (x : ℕ) (m : Machine) (k : ℕ) → Responder x m k → (lower x m k < length (responders x m)) × (responder x m (lower x m k) ≡ k)
+pub responder-is : (x : ResponseBit) (m : Machine) (k : ℕ) → Responder x m k → (lower x m k < length (responders x m)) × (responder x m (lower x m k) ≡ k)
 responder-is x m k r =
-    let p = back x 0 (m .responses) k (r .within) (eq-eqb (bit (response m k) x) 1 (r .mark)) in (p .0, p .1 ∙ omega arith)
+    let p = back x 0 (m .responses) k (r .within) (eq-eqb (bit (response m k) (x .0)) 1 (r .mark)) in (p .0, p .1 ∙ omega arith)
 
 -- ---- the first of what is left
 

@@ -2,7 +2,7 @@
 -- Document 01, 'The image': "the machine an image stands for is width, words, responses and job".
 use Prim.Native.Nat.{ℕ, _≤_, _+_}
 use mathlib.Core.Path.{_≡_, refl, sym, ap, ap₂, _∙_}
-use mathlib.Core.Bool.{false, _||_}
+use mathlib.Core.Bool.{_||_}
 use mathlib.Core.List.{List}
 use native.Mathlib.Omega.{arith}
 use lib.Dec.{ltb}
@@ -11,7 +11,7 @@ use lib.Seq.{sets, sets-eq, take-at}
 use borrow.Author.Tests.{ltb-false, le-ltb}
 use Rattle.machine.specs.declared.Check.{Check}
 use Rattle.machine.specs.declared.Check.the-variants as check
-use Rattle.machine.specs.declared.Refusal.the-variants.{Unfit, NoRoom}
+use Rattle.machine.specs.declared.Refusal.the-variants.{NoRoom}
 use Rattle.machine.specs.Machine.{machine}
 use Rattle.machine.specs.Refusals.{_else_, refuse, machineCheck, answerBy, changeBy}
 use Rattle.machine.proofs.Refusals.{else-passed, not-refused, or-left, or-right}
@@ -21,10 +21,11 @@ use Rattle.image.specs.declared.Wrote.{Wrote}
 use Rattle.image.specs.declared.Wrote.the-variants as wrote
 use Rattle.image.specs.declared.Read.{Read}
 use Rattle.image.specs.declared.Read.the-variants as read
-use Rattle.image_layout.specs.Format.{imageOf}
+use Rattle.image_layout.specs.Format.{heldJobs, imageOf}
 use Rattle.image_layout.specs.Reading.{wordsIn, scanned, stateIn}
-use Rattle.image.specs.Calls.{badJob, writeCheck, writeOf, written, refuseBytes, readCheck, readOf, wordsRead, responsesRead}
-use Rattle.image_layout.proofs.Bytes.{length-numbers}
+use Rattle.image.specs.Calls.{jobsCheck, writeCheck, writeOf, written, refuseBytes, readCheck, readOf, wordsRead, responsesRead}
+use Rattle.image_layout.specs.Sizes.{wordSize, itemsAt, wordsAt}
+use Rattle.image_layout.proofs.Reading.{length-numbers}
 use Rattle.image.proofs.RoundTrip.{plain, roundTrip}
 use Rattle.image.specs.Calls.{Stored}
 use Rattle.hosts.specs.Images.{Stores, Resumes}
@@ -36,6 +37,10 @@ first-of-sets xs l n e h =
     ap₂ take e (sets-eq xs l 0 (omega arith)) ∙ take-at xs (drop (0 + length xs) l) (length xs) refl
 
 -- ---- storing
+
+-- 8 of what is held, as writing judges it
+abbrev pub jobCheck : ℕ → Held → Check
+jobCheck n h = jobsCheck n (heldJobs h)
 
 abbrev wroteBy : Check → ℕ → Wrote
 wroteBy c n = answerBy c wrote.Refused (wrote.Length n)
@@ -49,22 +54,22 @@ module _ (s : State) (room : ℕ) (h : writeCheck s room ≡ check.Passed) where
   unfolding writeCheck
   machine-passed = else-passed (machineCheck (s .machine)) _ h .0
 
-  pub job-passed : badJob (s .machine .width) (s .held) ≡ false
+  pub job-passed : jobCheck (s .machine .width) (s .held) ≡ check.Passed
   unfolding writeCheck
-  job-passed = not-refused Unfit _ (else-passed (refuse Unfit (badJob (s .machine .width) (s .held))) _ (else-passed (machineCheck (s .machine)) _ h .1) .0)
+  job-passed = else-passed (jobCheck (s .machine .width) (s .held)) _ (else-passed (machineCheck (s .machine)) _ h .1) .0
 
   pub room-passed : length (imageOf s) ≤ room
   unfolding writeCheck
   room-passed =
       ltb-false room (length (imageOf s))
-      (not-refused NoRoom _ (else-passed (refuse Unfit (badJob (s .machine .width) (s .held))) _ (else-passed (machineCheck (s .machine)) _ h .1) .1))
+      (not-refused NoRoom _ (else-passed (jobCheck (s .machine .width) (s .held)) _ (else-passed (machineCheck (s .machine)) _ h .1) .1))
 
 pub stored-image : {s : State} {image : List ℕ} → Typed s → Stores s image → Stored s × (image ≡ imageOf s)
 unfolding writeOf written
 stored-image {s} {image} t w =
     let p = wrote-passed (writeCheck s (length (w .output))) _ (w .size) (w .accepted) in
     let room = length (w .output) in (
-      record { machine = machine-passed s room (p .0); job = job-passed s room (p .0); responses = t .responses; constant = t .constant },
+      record { machine = machine-passed s room (p .0); jobs = job-passed s room (p .0); responses = t .responses; typed = t .job },
       w .bytes
           ∙ ap (λ (c : Check). take (w .size) (changeBy c (sets (w .output) 0 (imageOf s)) (w .output))) (p .0)
           ∙ first-of-sets (imageOf s) (w .output) (w .size) (p .1) (room-passed s room (p .0)),
@@ -74,7 +79,7 @@ stored-image {s} {image} t w =
 pub can-store : (s : State) → Stored s → (output : List ℕ) → length (imageOf s) ≤ length output → Stores s (imageOf s)
 unfolding writeOf written writeCheck
 can-store s t output h =
-    let c : writeCheck s (length output) ≡ check.Passed = rw (t .machine, t .job, le-ltb (length output) (length (imageOf s)) h) in
+    let c : writeCheck s (length output) ≡ check.Passed = rw (t .machine, t .jobs, le-ltb (length output) (length (imageOf s)) h) in
     record {
       output = output;
       size = length (imageOf s);
@@ -129,7 +134,7 @@ module _ (s : State) (t : Stored s) where
 
   count-in : wordsIn (imageOf s) ≡ length (s .machine .words)
   unfolding stateIn
-  count-in = sym (length-numbers 8 (wordsIn (imageOf s)) (drop 9 (imageOf s))) ∙ ap (λ (z : State). length (z .machine .words)) in-image
+  count-in = sym (length-numbers wordSize (wordsIn (imageOf s)) (drop (itemsAt wordsAt) (imageOf s))) ∙ ap (λ (z : State). length (z .machine .words)) in-image
 
   -- what is read back is the machine, its held job included
   pub resumed-machine : {u : State} → Resumes (imageOf s) u → u ≡ s

@@ -2,7 +2,6 @@
 -- Document 01, 'Jobs' and 'The image'. The theorem: `survives`.
 use Prim.Native.Nat.{ℕ, zero, suc, _-_, _≤_, _<_}
 use mathlib.Core.Path.{_≡_, refl, sym, ap, _∙_}
-use mathlib.Core.Bool.{false}
 use mathlib.Core.Logic.{⊎-elim}
 use mathlib.Core.List.{List, [], _∷_}
 use native.Mathlib.Omega.{arith}
@@ -10,17 +9,16 @@ use lib.ListN.{length}
 use Rattle.laws.proofs.Digits.{tri}
 use Rattle.machine.specs.declared.Check.{Check}
 use Rattle.machine.specs.declared.Check.the-variants as check
-use Rattle.machine.specs.declared.Refusal.the-variants.{Unfit}
 use Rattle.machine.specs.Machine.{Machine}
-use Rattle.machine.specs.Refusals.{machineCheck, answerBy}
-use Rattle.machine.proofs.Refusals.{sound, else-passed, not-refused}
+use Rattle.machine.specs.Refusals.{_else_, machineCheck, answerBy}
+use Rattle.machine.proofs.Refusals.{sound, else-passed}
 use Rattle.job_plans.specs.declared.Job.{Job}
 use Rattle.job_plans.specs.declared.Held.{Held}
 use Rattle.job_plans.specs.declared.Held.the-variants.{Nothing, Holds}
 use Rattle.job_plans.specs.declared.Command.{Command}
 use Rattle.jobs.specs.declared.Stepped.the-variants as answer
-use Rattle.job_plans.specs.Places.{first}
-use Rattle.jobs.specs.Calls.{badStep, stepCheck, gave, stepOf}
+use Rattle.job_plans.specs.Places.{heldCheck, noneHeld, stepHeldCheck, first}
+use Rattle.jobs.specs.Calls.{stepCheck, gave, stepOf}
 use Rattle.job_tally.specs.Totals.{pulses}
 use Rattle.jobs.specs.Runs.{State, stepped, steps}
 use Rattle.ends.specs.Ends.{Accepted, begun, Gives, ended}
@@ -28,12 +26,11 @@ use Rattle.ends.proofs.Steps.{given-passed, steps-on, steps-last}
 use Rattle.ends.proofs.Machines.{words-length}
 use Rattle.ends.proofs.Ends.{course, not-over, stays-over}
 use Rattle.image_layout.specs.Format.{imageOf}
-use Rattle.image.specs.Calls.{badJob}
 use Rattle.image.specs.Calls.{Stored}
 use Rattle.hosts.specs.Images.{Stores, Resumes}
 use Rattle.hosts.specs.Stops as stops
 use Rattle.hosts.specs.Stops.{Kept, In, here, there, Worked}
-use Rattle.hosts.proofs.Images.{stored-image, can-store, resumed-machine, can-resume}
+use Rattle.hosts.proofs.Images.{jobCheck, stored-image, can-store, resumed-machine, can-resume}
 use Rattle.hosts.specs.Images.{Typed}
 use Rattle.hosts.proofs.Typed.{first-fits, stepped-typed}
 
@@ -42,7 +39,7 @@ held-given : (m : Machine) (h : Held) {c : Command} {n : ℕ} {g : Held} → ste
 unfolding stepOf
 held-given m h e z = go (stepCheck m Nothing) (ap (λ (h : Held). answerBy (stepCheck m h) answer.Refused (gave m h)) (sym z) ∙ e)
   where
-    go : (c : Check) {k : Command} {n : ℕ} {g : Held} → answerBy c answer.Refused (answer.Refused Unfit) ≡ answer.Gave k n g → ⊥
+    go : (c : Check) {k : Command} {n : ℕ} {g : Held} → answerBy c answer.Refused (answer.Refused noneHeld) ≡ answer.Gave k n g → ⊥
     go check.Passed e = let z : _≡_ {A = ℕ} 0 1 = cc in absurd (omega arith)
     go (check.Refused r) e = let z : _≡_ {A = ℕ} 0 1 = cc in absurd (omega arith)
 
@@ -54,25 +51,29 @@ steps-typed (suc k) s t = steps-typed k (stepped s) (stepped-typed s t)
 none-in : (i : Kept) (is : List Kept) → In i is → is ≡ [] → ⊥
 none-in i (j ∷ is) p e = let z : _≡_ {A = ℕ} 0 1 = cc in absurd (omega arith)
 
+-- the one job that is held
+pub alone-passed : (c : Check) → c ≡ check.Passed → (c else check.Passed) ≡ check.Passed
+alone-passed c h = rw h
+
 -- a machine and a job that a step does not turn down can be stored
-fit-to-store : (n : ℕ) (h : Held) → badStep n h ≡ false → badJob n h ≡ false
+fit-to-store : (n : ℕ) (h : Held) → stepHeldCheck n h ≡ check.Passed → jobCheck n h ≡ check.Passed
 fit-to-store n Nothing e = refl
-fit-to-store n (Holds o) e = e
+fit-to-store n (Holds o) e = alone-passed (heldCheck n o) e
 
 passed-stored : (s : State) → Typed s → stepCheck (s .machine) (s .held) ≡ check.Passed → Stored s
 unfolding stepCheck
 passed-stored s t h =
-    let p = else-passed (machineCheck (s .machine)) _ h in
+    let p = else-passed (machineCheck (s .machine)) (stepHeldCheck (s .machine .width) (s .held)) h in
     record {
       machine = p .0;
-      job = fit-to-store (s .machine .width) (s .held) (not-refused Unfit _ (p .1));
+      jobs = fit-to-store (s .machine .width) (s .held) (p .1);
       responses = t .responses;
-      constant = t .constant;
+      typed = t .job;
     }
 
 module _ (m : Machine) (o : Job) (accepted : Accepted m o) (typed : Typed (record { machine = m; held = Holds o })) where
   begun-typed : Typed (begun m o)
-  begun-typed = record { responses = typed .responses; constant = first-fits o (typed .constant) }
+  begun-typed = record { responses = typed .responses; job = first-fits o (typed .job .0) }
 
   -- what stands after k of the job's pulses
   abbrev standing : ℕ → State
@@ -91,9 +92,9 @@ module _ (m : Machine) (o : Job) (accepted : Accepted m o) (typed : Typed (recor
       at-end : k ≡ pulses m (first o) → Stored (standing k)
       at-end e = record {
         machine = ap (λ (i : ℕ). machineCheck (standing i .machine)) e ∙ course m o accepted .passes;
-        job = ap (badJob (standing k .machine .width)) (ap (λ (i : ℕ). standing i .held) e ∙ course m o accepted .over);
+        jobs = ap (jobCheck (standing k .machine .width)) (ap (λ (i : ℕ). standing i .held) e ∙ course m o accepted .over);
         responses = typed-then .responses;
-        constant = typed-then .constant;
+        typed = typed-then .job;
       }
 
   -- no word is added or lost

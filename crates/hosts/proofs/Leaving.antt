@@ -1,32 +1,33 @@
 -- Calls that are none of a round's: what they keep, and which of them leave X and F as they are.
 use Prim.Native.Nat.{ℕ, _+_, _-_, _<_}
 use mathlib.Core.Path.{_≡_, refl, sym, ap, _∙_}
-use mathlib.Core.Bool.{Bool, true, false, not, _&&_, _||_}
+use mathlib.Core.Bool.{Bool, true, false, _&&_, _||_}
 use native.Mathlib.Omega.{arith}
 use lib.Dec.{eqb, ltb}
 use lib.ListN.{length}
-use borrow.Author.Tests.{eqb-true, not-false}
+use borrow.Author.Tests.{eqb-true}
 use Rattle.laws.specs.Bits.{bit, pick, digit}
 use Rattle.laws.proofs.Bits.{bit-none, number-bit, and-left}
 use Rattle.machine.specs.declared.Panel.{Panel}
 use Rattle.machine.specs.declared.Lines.{Lines}
+use Rattle.machine.specs.declared.ResponseBit.{ResponseBit}
 use Rattle.machine.specs.declared.Check.{Check}
 use Rattle.machine.specs.declared.Check.the-variants.{Passed, Refused}
-use Rattle.machine.specs.declared.Refusal.the-variants.{Unfit}
 use Rattle.machine.specs.Machine.{Machine, responseBits, selected}
 use Rattle.machine.specs.Search.{matches, marked}
 use Rattle.machine.specs.Pulse.{flipped, responseAfter, pulsed}
 use Rattle.machine.specs.Refusals.{machineCheck, pulseCheck, changeBy, after, answerBy}
-use Rattle.machine.proofs.Refusals.{sound, clean, else-passed, not-refused, or-right}
+use Rattle.machine.proofs.Refusals.{sound, clean, else-passed}
 use Rattle.job_plans.specs.declared.Held.{Held}
 use Rattle.job_plans.specs.declared.Held.the-variants.{Holds}
 use Rattle.job_plans.specs.declared.Command.{Command}
 use Rattle.jobs.specs.declared.Stepped.{Stepped}
 use Rattle.jobs.specs.declared.Stepped.the-variants as answer
 use Rattle.job_plans.specs.declared.Job.{Job}
-use Rattle.job_plans.specs.Fields.{Kind, greatest, smallest, scaledAdd, product, unknown, kindOf, badUsed, unusedZero}
-use Rattle.job_plans.specs.Places.{atPlace, inTableFor, inTable, badHeld}
-use Rattle.job_plans.specs.Commands.{look, opening, trial, second, command}
+use Rattle.job_plans.specs.Fields.{Kind, greatest, smallest, scaledAdd, product, unknown, kindOf}
+use Rattle.job_plans.specs.Places.{atPlace, inTableFor, inTable, heldCheck}
+use Rattle.job_plans.proofs.Fair.{fair}
+use Rattle.job_plans.specs.Commands.{opening, trial, second, command}
 use Rattle.jobs.specs.Calls.{stepCheck, gave, stepOf, machineAfter, afterStep}
 use Rattle.jobs.specs.Runs.{State, stepped}
 use Rattle.ends.proofs.Machines.{passes, same, response-at, responses-length}
@@ -37,7 +38,7 @@ use Rattle.rounds.specs.Round.{Fit}
 use Rattle.hosts.specs.Rounds as events
 use Rattle.hosts.specs.Rounds.{Other, Leaves, ApartFor, Apart}
 use Rattle.hosts.specs.Images.{Typed}
-use Rattle.hosts.proofs.Typed.{pulsed-bytes, first-fits, stepped-typed}
+use Rattle.hosts.proofs.Typed.{pulsed-responses, first-fits, stepped-typed}
 use Rattle.hosts.proofs.Fits.{pulsed-passes}
 use Rattle.hosts.proofs.Below.{bit-below, digit-below, flip-below, either-below}
 
@@ -60,9 +61,9 @@ other-passes events.loads h = h
 
 pub other-typed : {s t : State} → Other s t → Typed s → Typed t
 other-typed (events.pulses {s} p l a) t =
-    record { responses = rw (accepted-pulse (s .machine) p l a) (pulsed-bytes (s .machine) p l (t .responses)); constant = t .constant }
+    record { responses = rw (accepted-pulse (s .machine) p l a) (pulsed-responses (s .machine) p l (t .responses)); job = t .job }
 other-typed (events.starts {s} {q} o c a) t =
-    record { responses = t .responses; constant = rw (accepted-is (s .machine) (s .held) o q a .1) (first-fits o c) }
+    record { responses = t .responses; job = rw (accepted-is (s .machine) (s .held) o q a .1) (first-fits o c) }
 other-typed (events.steps {s} a) t = stepped-typed s t
 other-typed events.loads t = t
 
@@ -101,65 +102,62 @@ module _ (m : Machine) (p : Panel) (l : Lines) (h : machineCheck m ≡ Passed) w
       let s = sound m h in
       ap (λ (r : ℕ). bit r i) (response-at m s p l k (omega (arith, g, same m s))) ∙ f k _ (response m k)
 
-  kept-by-rule : (x f : ℕ) → ((k w r : ℕ) → bit (responseAfter (m .width) p l k w r) x ≡ bit r x)
-      → ((k w r : ℕ) → bit (responseAfter (m .width) p l k w r) f ≡ bit r f) → Leaves x f m (pulsed m p l)
+  kept-by-rule : (x f : ResponseBit) → ((k w r : ℕ) → bit (responseAfter (m .width) p l k w r) (x .0) ≡ bit r (x .0))
+      → ((k w r : ℕ) → bit (responseAfter (m .width) p l k w r) (f .0) ≡ bit r (f .0)) → Leaves x f m (pulsed m p l)
   kept-by-rule x f a b = let s = sound m h in
-      record { count = responses-length m s p l ∙ sym (same m s); mark = kept-bit x a; fault = kept-bit f b }
+      record { count = responses-length m s p l ∙ sym (same m s); mark = kept-bit (x .0) a; fault = kept-bit (f .0) b }
 
-  pub spared : (x f : ℕ) → Fit x f → bit (p .target) x ≡ 0 → bit (p .target) f ≡ 0 → Leaves x f m (pulsed m p l)
+  pub spared : (x f : ResponseBit) → Fit x f → bit (p .target) (x .0) ≡ 0 → bit (p .target) (f .0) ≡ 0 → Leaves x f m (pulsed m p l)
   spared x f fit a b =
-      kept-by-rule x f (λ k w r. untouched (m .width) p l k w r x (fit .mark) a) (λ k w r. untouched (m .width) p l k w r f (fit .fault) b)
+      kept-by-rule x f (λ k w r. untouched (m .width) p l k w r (x .0) (fit .mark) a) (λ k w r. untouched (m .width) p l k w r (f .0) (fit .fault) b)
 
-  silent : (x f : ℕ) → l .search ≡ false → l .complement ≡ false → Leaves x f m (pulsed m p l)
+  silent : (x f : ResponseBit) → l .search ≡ false → l .complement ≡ false → Leaves x f m (pulsed m p l)
   silent x f a b =
-      kept-by-rule x f (λ k w r. ap (λ (z : ℕ). bit z x) (quiet (m .width) p l k w r a b))
-      (λ k w r. ap (λ (z : ℕ). bit z f) (quiet (m .width) p l k w r a b))
+      kept-by-rule x f (λ k w r. ap (λ (z : ℕ). bit z (x .0)) (quiet (m .width) p l k w r a b))
+      (λ k w r. ap (λ (z : ℕ). bit z (f .0)) (quiet (m .width) p l k w r a b))
 
-module _ (x f : ℕ) (m : Machine) (p : Panel) (l : Lines) (accepted : pulseCheck m p l ≡ Passed) where
+module _ (x f : ResponseBit) (m : Machine) (p : Panel) (l : Lines) (accepted : pulseCheck m p l ≡ Passed) where
   machine-fine : machineCheck m ≡ Passed
   machine-fine = passes m (clean m p l accepted .sound)
 
   -- an accepted pulse whose target has neither bit, or that raises neither search nor complement
-  pub target-spares : Fit x f → bit (p .target) x ≡ 0 → bit (p .target) f ≡ 0 → Leaves x f m (after m p l)
+  pub target-spares : Fit x f → bit (p .target) (x .0) ≡ 0 → bit (p .target) (f .0) ≡ 0 → Leaves x f m (after m p l)
   target-spares fit a b = rw (accepted-pulse m p l accepted) (spared m p l machine-fine x f fit a b)
 
   pub lines-spare : l .search ≡ false → l .complement ≡ false → Leaves x f m (after m p l)
   lines-spare a b = rw (accepted-pulse m p l accepted) (silent m p l machine-fine x f a b)
 
 -- nothing changes
-pub all-left : (x f : ℕ) (m : Machine) → Leaves x f m m
+pub all-left : (x f : ResponseBit) (m : Machine) → Leaves x f m m
 all-left x f m = record { count = refl; mark = λ k h. refl; fault = λ k h. refl }
 
 -- ---- steps: each command's target is a working bit of the job, or none
 
-module _ (o : Job) (b : ℕ) where
-  look-spares : (key care t mask comp : ℕ) → (b ≡ t → ⊥) → bit (look key care t mask comp .panel .target) b ≡ 0
-  look-spares key care t mask comp h = mask-else t b h
-
-  picked : (t : Bool) (c d : Command) → bit (c .panel .target) b ≡ 0 → bit (d .panel .target) b ≡ 0 → bit (pick t c d .panel .target) b ≡ 0
+module _ (o : Job) (b : ResponseBit) where
+  picked : (t : Bool) (c d : Command) → bit (c .panel .target) (b .0) ≡ 0 → bit (d .panel .target) (b .0) ≡ 0 → bit (pick t c d .panel .target) (b .0) ≡ 0
   picked true c d h g = h
   picked false c d h g = g
 
-  trial-spares : (k : Kind) → ApartFor k o b → bit (trial k o .panel .target) b ≡ 0
-  trial-spares greatest h = mask-else (o .y) b (h .1)
-  trial-spares smallest h = mask-else (o .y) b (h .1)
-  trial-spares scaledAdd h = mask-else (o .y) b h
-  trial-spares product h = mask-else (o .y) b h
+  trial-spares : (k : Kind) → ApartFor k o b → bit (trial k o .panel .target) (b .0) ≡ 0
+  trial-spares greatest h = mask-else (o .y .0) (b .0) (h .1)
+  trial-spares smallest h = mask-else (o .y .0) (b .0) (h .1)
+  trial-spares scaledAdd h = mask-else (o .y .0) (b .0) h
+  trial-spares product h = mask-else (o .y .0) (b .0) h
   trial-spares unknown h = absurd h
 
-  second-spares : (k : Kind) → ApartFor k o b → bit (second k o .panel .target) b ≡ 0
-  second-spares greatest h = mask-else (o .x) b (h .0)
-  second-spares smallest h = mask-else (o .x) b (h .0)
-  second-spares scaledAdd h = bit-none b
-  second-spares product h = bit-none b
+  second-spares : (k : Kind) → ApartFor k o b → bit (second k o .panel .target) (b .0) ≡ 0
+  second-spares greatest h = mask-else (o .x .0) (b .0) (h .0)
+  second-spares smallest h = mask-else (o .x .0) (b .0) (h .0)
+  second-spares scaledAdd h = bit-none (b .0)
+  second-spares product h = bit-none (b .0)
   second-spares unknown h = absurd h
 
   -- phase 0 is for extremes only
-  command-spares : inTable o ≡ true → Apart o b → bit (command o .panel .target) b ≡ 0
+  command-spares : inTable o ≡ true → Apart o b → bit (command o .panel .target) (b .0) ≡ 0
   unfolding command inTable
   command-spares t h = go (kindOf (o .kind)) t h (eqb (o .phase) 0) refl
     where
-      later : (k : Kind) → ApartFor k o b → bit (pick (eqb (o .phase) 1) (trial k o) (second k o) .panel .target) b ≡ 0
+      later : (k : Kind) → ApartFor k o b → bit (pick (eqb (o .phase) 1) (trial k o) (second k o) .panel .target) (b .0) ≡ 0
       later k h = picked (eqb (o .phase) 1) (trial k o) (second k o) (trial-spares k h) (second-spares k h)
 
       not-open : atPlace o ≡ true → eqb (o .phase) 0 ≡ true → ⊥
@@ -168,10 +166,10 @@ module _ (o : Job) (b : ℕ) where
           let q : _≡_ {A = ℕ} 0 1 = cc in absurd (omega arith)
 
       go : (k : Kind) → inTableFor k o ≡ true → ApartFor k o b → (u : Bool) → eqb (o .phase) 0 ≡ u
-          → bit (pick u (opening o) (pick (eqb (o .phase) 1) (trial k o) (second k o)) .panel .target) b ≡ 0
+          → bit (pick u (opening o) (pick (eqb (o .phase) 1) (trial k o) (second k o)) .panel .target) (b .0) ≡ 0
       go k t h false e = later k h
-      go greatest t h true e = mask-else (o .x) b (h .0)
-      go smallest t h true e = mask-else (o .x) b (h .0)
+      go greatest t h true e = mask-else (o .x .0) (b .0) (h .0)
+      go smallest t h true e = mask-else (o .x .0) (b .0) (h .0)
       go scaledAdd t h true e =
           absurd (not-open (and-left (atPlace o) (ltb (o .i) (o .a .width)) (and-left (atPlace o && ltb (o .i) (o .a .width)) (ltb (o .i) (o .p .width)) t)) e)
       go product t h true e =
@@ -181,15 +179,15 @@ module _ (o : Job) (b : ℕ) where
       go unknown t h true e = absurd h
 
 -- an accepted step of a job that works on neither bit
-step-command : (m : Machine) (o : Job) (x f : ℕ) → Fit x f → stepCheck m (Holds o) ≡ Passed → Apart o x → Apart o f
+step-command : (m : Machine) (o : Job) (x f : ResponseBit) → Fit x f → stepCheck m (Holds o) ≡ Passed → Apart o x → Apart o f
     → Leaves x f m (pulsed m (command o .panel) (command o .lines))
-unfolding stepCheck badHeld
+unfolding stepCheck inTable
 step-command m o x f fit h a b =
-    let p = else-passed (machineCheck m) _ h in
-    let t : inTable o ≡ true = not-false (inTable o) (or-right (badUsed (m .width) o || not (unusedZero o)) (not (inTable o)) (not-refused Unfit _ (p .1))) in
+    let p = else-passed (machineCheck m) (heldCheck (m .width) o) h in
+    let t : inTable o ≡ true = fair (m .width) o (p .1) .place in
     spared m (command o .panel) (command o .lines) (p .0) x f fit (command-spares o x t a) (command-spares o f t b)
 
-pub step-spares : (x f : ℕ) → Fit x f → (s : State) (o : Job) → s .held ≡ Holds o → Apart o x → Apart o f → {k : Command} {c : ℕ} {h : Held}
+pub step-spares : (x f : ResponseBit) → Fit x f → (s : State) (o : Job) → s .held ≡ Holds o → Apart o x → Apart o f → {k : Command} {c : ℕ} {h : Held}
     → stepOf (s .machine) (s .held) ≡ answer.Gave k c h → Leaves x f (s .machine) (stepped s .machine)
 unfolding stepped afterStep stepOf
 step-spares x f fit s o e a b {k} {c} {h} g = rw e (go (stepCheck (s .machine) (Holds o)) refl (ap (λ (h : Held). answerBy (stepCheck (s .machine) h) answer.Refused (gave (s .machine) h)) (sym e) ∙ g))

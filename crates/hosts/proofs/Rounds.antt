@@ -9,23 +9,23 @@ use lib.ListN.{length, getD, drop, length-append}
 use Rattle.laws.specs.Bits.{bit}
 use Rattle.laws.proofs.Digits.{tri}
 use Rattle.machine.specs.declared.WordSlice.{WordSlice}
+use Rattle.machine.specs.declared.ResponseBit.{ResponseBit}
 use Rattle.machine.specs.declared.Found.the-variants as found
-use Rattle.machine.specs.declared.Refusal.the-variants.{Unfit}
 use Rattle.machine.specs.declared.Check.{Check}
 use Rattle.machine.specs.declared.Found.{Found}
 use Rattle.machine.specs.declared.Check.the-variants.{Passed}
-use Rattle.machine.proofs.Refusals.{sound, else-passed}
+use Rattle.machine.proofs.Refusals.{sound}
 use Rattle.ends.proofs.Machines.{same}
 use Rattle.machine.specs.Machine.{Machine, machine, responseBits}
-use Rattle.machine.specs.Refusals.{refuse, machineCheck, answerBy}
+use Rattle.machine.specs.Refusals.{answerBy}
 use Rattle.resolver.specs.declared.Resolved.the-variants as resolved
 use Rattle.resolver.specs.Answers.{asResolved}
 use Rattle.rounds.specs.declared.Verdict.{Verdict}
 use Rattle.rounds.specs.declared.Verdict.the-variants.{Done, Faulty}
 use Rattle.rounds.specs.declared.Reply.the-variants as reply
-use Rattle.rounds.specs.Round.{badBits, bitsCheck, shown, showCheck, showOf, answerCheck, replyOf}
+use Rattle.rounds.specs.Round.{roundCheck, shown, showCheck, showOf, answerCheck, replyOf}
 use Rattle.rounds.specs.Handout.{responders, responder, response, NotAmong, firstOf}
-use Rattle.rounds.proofs.Passing.{acceptable, accepted}
+use Rattle.rounds.proofs.Passing.{round-parts, acceptable, accepted}
 use Rattle.rounds.specs.Round.{Fit}
 use Rattle.rounds.proofs.Responders.{first-of-rest}
 use Rattle.rounds.proofs.Handout.{HandedOut, handed-out}
@@ -41,7 +41,7 @@ use Rattle.hosts.proofs.Counting.{responder-at, responder-is, first-lef
 use Rattle.hosts.proofs.Standing.{taken-passed, none-by, fit, shade, Kept, Standing, standing}
 
 -- of a book in order: every responder with fewer lower ones than were shown stands in it
-shown-in : (x : ℕ) (m : Machine) {book : List Entry} {many : ℕ} → Orderly x m book many → (k : ℕ) → Responder x m k → lower x m k < many → Shown k book
+shown-in : (x : ResponseBit) (m : Machine) {book : List Entry} {many : ℕ} → Orderly x m book many → (k : ℕ) → Responder x m k → lower x m k < many → Shown k book
 shown-in x m events.nothing-yet k r l = absurd (omega arith)
 shown-in x m (events.next {book} {many} {k = j} o q e) k r l = ⊎-elim (λ g. events.before (shown-in x m o k r g)) (⊎-elim here (λ g. absurd (omega arith))) (tri (lower x m k) many)
   where
@@ -55,7 +55,7 @@ shown-in x m (events.stop o) k r l = events.before (shown-in x m o k r l)
 one-word : (k j : WordSlice) → found.At k ≡ found.At j → k .0 ≡ j .0
 one-word k j e = cc
 
-module _ (x f : ℕ) (b : State) (fine : bitsCheck (badBits x f) (b .machine) ≡ Passed) (typed : Typed b) where
+module _ (x f : ResponseBit) (b : State) (fine : roundCheck x f (b .machine) ≡ Passed) (typed : Typed b) where
   abbrev Stands : State → List ℕ → Phase → List Verdict → Type 0
   Stands s image phase vs = Standing x f b fine typed s image phase vs
 
@@ -64,8 +64,8 @@ module _ (x f : ℕ) (b : State) (fine : bitsCheck (badBits x f) (b .machine) �
 
   -- show is not turned down
   show-accepted : {s : State} {image : List ℕ} {phase : Phase} {vs : List Verdict} → Stands s image phase vs → showCheck x (s .machine) ≡ Passed
-  unfolding bitsCheck
-  show-accepted w = rw (w .passes, lt-leb responseBits x (round-fit .mark))
+  unfolding showCheck
+  show-accepted w = rw (w .passes, lt-leb responseBits (x .0) (round-fit .mark))
 
   -- what the answers given make of the first image's marks
   module _ {s : State} {image : List ℕ} {phase : Phase} {vs : List Verdict} (w : Stands s image phase vs) where
@@ -83,17 +83,17 @@ module _ (x f : ℕ) (b : State) (fine : bitsCheck (badBits x f) (b .machine) �
     responder-shade : (i : ℕ) → responder x (shade x f b fine typed (b .machine)) i ≡ responder x (b .machine) i
     responder-shade i = ap (λ (ks : List ℕ). getD ks i 0) (shadow-responders x f round-fit (b .machine) (b .machine))
 
-    fault-now : (i : ℕ) → bit (response (shade x f b fine typed (s .machine)) (responder x (shade x f b fine typed (b .machine)) i)) f
-        ≡ bit (response (s .machine) (responder x (b .machine) i)) f
+    fault-now : (i : ℕ) → bit (response (shade x f b fine typed (s .machine)) (responder x (shade x f b fine typed (b .machine)) i)) (f .0)
+        ≡ bit (response (s .machine) (responder x (b .machine) i)) (f .0)
     fault-now i =
         shadow-fault x f round-fit (b .machine) (s .machine) (responder x (shade x f b fine typed (b .machine)) i)
-        ∙ ap (λ (k : ℕ). bit (response (s .machine) k) f) (responder-shade i)
+        ∙ ap (λ (k : ℕ). bit (response (s .machine) k) (f .0)) (responder-shade i)
 
-    fault-first : (i : ℕ) → bit (response (shade x f b fine typed (b .machine)) (responder x (shade x f b fine typed (b .machine)) i)) f
-        ≡ bit (response (b .machine) (responder x (b .machine) i)) f
+    fault-first : (i : ℕ) → bit (response (shade x f b fine typed (b .machine)) (responder x (shade x f b fine typed (b .machine)) i)) (f .0)
+        ≡ bit (response (b .machine) (responder x (b .machine) i)) (f .0)
     fault-first i =
         shadow-fault x f round-fit (b .machine) (b .machine) (responder x (shade x f b fine typed (b .machine)) i)
-        ∙ ap (λ (k : ℕ). bit (response (b .machine) k) f) (responder-shade i)
+        ∙ ap (λ (k : ℕ). bit (response (b .machine) k) (f .0)) (responder-shade i)
 
   -- ---- a word that is shown
 
@@ -144,29 +144,29 @@ module _ (x f : ℕ) (b : State) (fine : bitsCheck (badBits x f) (b .machine) �
     over e = ap₂ (λ (c : Check) (w : Found). answerBy c resolved.Refused (asResolved w)) (show-accepted stands) (to-show ∙ left-none (responders x (b .machine)) (length vs) (omega (arith, e)))
 
     -- F: of those answered, and stored
-    pub faulty-has : (i : ℕ) → i < length vs → getD vs i Done ≡ Faulty → bit (response (s .machine) (responder x (b .machine) i)) f ≡ 1
+    pub faulty-has : (i : ℕ) → i < length vs → getD vs i Done ≡ Faulty → bit (response (s .machine) (responder x (b .machine) i)) (f .0) ≡ 1
     faulty-has i l e =
         sym (fault-now stands i)
         ∙ out stands .faulty-marked i (omega (arith, l, counted)) (ap (λ (us : List Verdict). getD us i Done) (append-nil vs) ∙ e)
 
     pub done-has : (i : ℕ) → i < length vs → getD vs i Done ≡ Done
-        → bit (response (s .machine) (responder x (b .machine) i)) f ≡ bit (response (b .machine) (responder x (b .machine) i)) f
+        → bit (response (s .machine) (responder x (b .machine) i)) (f .0) ≡ bit (response (b .machine) (responder x (b .machine) i)) (f .0)
     done-has i l e =
         sym (fault-now stands i)
         ∙ out stands .done-unmarked i (omega (arith, l, counted)) (ap (λ (us : List Verdict). getD us i Done) (append-nil vs) ∙ e)
         ∙ fault-first stands i
 
-    pub others-have : (j : ℕ) → NotAmong (responders x (b .machine)) (length vs) j → bit (response (s .machine) j) f ≡ bit (response (b .machine) j) f
+    pub others-have : (j : ℕ) → NotAmong (responders x (b .machine)) (length vs) j → bit (response (s .machine) j) (f .0) ≡ bit (response (b .machine) j) (f .0)
     others-have j none =
         sym (shadow-fault x f round-fit (b .machine) (s .machine) j)
-        ∙ ap (λ (r : ℕ). bit r f) (out stands .other-words j (λ i l e. none i (omega (arith, l, counted)) (sym (responder-shade stands i) ∙ e)))
+        ∙ ap (λ (r : ℕ). bit r (f .0)) (out stands .other-words j (λ i l e. none i (omega (arith, l, counted)) (sym (responder-shade stands i) ∙ e)))
         ∙ shadow-fault x f round-fit (b .machine) (b .machine) j
 
   -- ---- never stuck
 
-  bits-fine : {s : State} {image : List ℕ} {phase : Phase} {vs : List Verdict} → Stands s image phase vs → bitsCheck (badBits x f) (s .machine) ≡ Passed
-  unfolding bitsCheck
-  bits-fine w = rw (w .passes) (else-passed (machineCheck (b .machine)) (refuse Unfit (badBits x f)) fine .1)
+  bits-fine : {s : State} {image : List ℕ} {phase : Phase} {vs : List Verdict} → Stands s image phase vs → roundCheck x f (s .machine) ≡ Passed
+  unfolding roundCheck
+  bits-fine w = rw (w .passes) (round-parts x f (b .machine) fine .1)
 
   -- the word that is shown can be answered, either way
   pub answerable : {s : State} {image : List ℕ} {k : ℕ} {vs : List Verdict} {book : List Entry} → Hosted x f b s image (showing k) vs book
@@ -189,11 +189,10 @@ module _ (x f : ℕ) (b : State) (fine : bitsCheck (badBits x f) (b .machine) �
       → (output : List ℕ) → length (imageOf s) ≤ length output → Stores s (imageOf s)
   storable-round {s} h =
       let w = standing x f b fine typed h in
-      can-store s (record { machine = w .passes; job = w .job; responses = w .kinds .responses; constant = w .kinds .constant })
+      can-store s (record { machine = w .passes; jobs = w .job; responses = w .kinds .responses; typed = w .kinds .job })
 
   first-size : length (b .machine .responses) ≡ length (b .machine .words)
-  unfolding bitsCheck
-  first-size = same (b .machine) (sound (b .machine) (else-passed (machineCheck (b .machine)) (refuse Unfit (badBits x f)) fine .0))
+  first-size = same (b .machine) (sound (b .machine) (round-parts x f (b .machine) fine .0))
 
   from-kept : {image : List ℕ} {vs : List Verdict} → Kept x f b fine typed image vs
       → (words responses : List ℕ) → length (b .machine .words) ≤ length words → length (b .machine .words) ≤ length responses

@@ -1,13 +1,13 @@
 -- A round over stops: what stands after any events. Document 01, 'The hand-out round'.
 -- The argument: the machine's X and F bits are those that the stored answers, and the one not stored, make of the first image's, and the last stored
 -- image has those of the stored answers.
-use Prim.Native.Nat.{ℕ, zero, suc, _<_}
+use Prim.Native.Nat.{ℕ, zero, suc, _^_, _<_}
 use mathlib.Core.Path.{_≡_, refl, sym, ap, _∙_}
-use mathlib.Core.Bool.{false}
 use mathlib.Core.List.{List, [], _∷_, _++_, append-nil}
 use native.Mathlib.Omega.{arith}
 use lib.ListN.{length, set, length-set}
 use Rattle.machine.specs.declared.WordSlice.{WordSlice}
+use Rattle.machine.specs.declared.ResponseBit.{ResponseBit}
 use Rattle.machine.specs.declared.Found.{Found}
 use Rattle.machine.specs.declared.Found.the-variants as found
 use Rattle.machine.specs.declared.Refusal.{Refusal}
@@ -23,25 +23,24 @@ use Rattle.rounds.specs.declared.Verdict.{Verdict}
 use Rattle.rounds.specs.declared.Verdict.the-variants.{Done, Faulty}
 use Rattle.rounds.specs.declared.Reply.the-variants as reply
 use Rattle.rounds.specs.Round as round
-use Rattle.rounds.specs.Round.{put, badBits, bitsCheck, shown, showCheck, showOf, answeredAt, answerCheck, replyOf, afterAnswer}
+use Rattle.rounds.specs.Round.{put, roundCheck, shown, showCheck, showOf, answeredAt, answerCheck, replyOf, afterAnswer}
 use Rattle.rounds.specs.Handout.{response, Answers, none-yet, one-more}
 use Rattle.rounds.proofs.Marks.{put-lt}
-use Rattle.rounds.proofs.Passing.{bits-fit}
+use Rattle.rounds.proofs.Passing.{round-fits}
 use Rattle.rounds.specs.Round.{Fit}
 use Rattle.rounds.proofs.Handout.{refused-nothing}
 use Rattle.jobs.specs.Runs.{State}
-use Rattle.image_layout.specs.Format.{imageOf}
-use Rattle.image_layout.specs.Format.{AreBytes}
+use Rattle.image_layout.specs.Sizes.{responseSize}
+use Rattle.image_layout.specs.Format.{imageOf, AreResponses}
 use Rattle.image.specs.Calls.{Stored}
 use Rattle.hosts.specs.Images.{Stores, Resumes}
 use Rattle.hosts.specs.Rounds as events
 use Rattle.hosts.specs.Rounds.{Other, Leaves, Phase, ready, showing, answered, pending, settled, Entry, Hosted}
-use Rattle.hosts.proofs.Images.{stored-image, resumed-machine}
+use Rattle.hosts.proofs.Images.{jobCheck, stored-image, resumed-machine}
 use Rattle.hosts.specs.Images.{Typed}
 use Rattle.hosts.proofs.Shadow.{shadow, shadow-shown, shadow-left, shadow-taken, shadow-after}
 use Rattle.hosts.proofs.Leaving.{other-passes, other-typed}
 use Rattle.hosts.proofs.Staying.{other-job}
-use Rattle.image.specs.Calls.{badJob}
 
 -- ---- checks taken apart
 
@@ -66,29 +65,29 @@ none-by (Refused r) w h = cc
 same-word : (k j : ℕ) → showing k ≡ showing j → k ≡ j
 same-word k j e = cc
 
--- ---- an answer keeps what the checks look at, and bytes
+-- ---- an answer keeps what the checks look at, and responses
 
 same-machine : (n : ℕ) (ws rs qs : List ℕ) → length qs ≡ length rs → machineCheck (machine n ws qs) ≡ machineCheck (machine n ws rs)
 unfolding machineCheck
 same-machine n ws rs qs e =
     ap (λ (k : ℕ). refuse Size (badSize (length ws) k) else refuse Width (badWidth n) else refuseWord (lowest (tooWide n) 0 ws)) e
 
-answered-machine : (x f : ℕ) (m : Machine) (k : WordSlice) (v : Verdict) → answerCheck x f k m ≡ Passed → afterAnswer x f k v m ≡ answeredAt x f k v m
+answered-machine : (x f : ResponseBit) (m : Machine) (k : WordSlice) (v : Verdict) → answerCheck x f k m ≡ Passed → afterAnswer x f k v m ≡ answeredAt x f k v m
 unfolding afterAnswer
 answered-machine x f m k v p = ap (λ (c : Check). changeBy c (answeredAt x f k v m) m) p
 
-set-bytes : (rs : List ℕ) (k v : ℕ) → AreBytes rs → v < 256 → AreBytes (set rs k v)
-set-bytes [] k v h g = tt
-set-bytes (r ∷ rs) zero v h g = (g, h .1)
-set-bytes (r ∷ rs) (suc k) v h g = (h .0, set-bytes rs k v (h .1) g)
+set-responses : (rs : List ℕ) (k v : ℕ) → AreResponses rs → v < 256 ^ responseSize → AreResponses (set rs k v)
+set-responses [] k v h g = tt
+set-responses (r ∷ rs) zero v h g = (g, h .1)
+set-responses (r ∷ rs) (suc k) v h g = (h .0, set-responses rs k v (h .1) g)
 
-answered-byte : (x f : ℕ) (v : Verdict) (r : ℕ) → round.answered x f v r < 256
-answered-byte x f Done r = put-lt x 0 r (omega arith)
-answered-byte x f Faulty r = put-lt f 1 (put x 0 r) (omega arith)
+answered-fits : (x f : ResponseBit) (v : Verdict) (r : ℕ) → round.answered x f v r < 256 ^ responseSize
+answered-fits x f Done r = put-lt x 0 r (omega arith)
+answered-fits x f Faulty r = put-lt f 1 (put x 0 r) (omega arith)
 
-module _ (x f : ℕ) (b : State) (fine : bitsCheck (badBits x f) (b .machine) ≡ Passed) (typed : Typed b) where
+module _ (x f : ResponseBit) (b : State) (fine : roundCheck x f (b .machine) ≡ Passed) (typed : Typed b) where
   pub fit : Fit x f
-  fit = bits-fit x f (b .machine) fine
+  fit = round-fits x f (b .machine) fine
 
   -- the machine's X and F bits alone
   abbrev pub shade : Machine → Machine
@@ -106,7 +105,7 @@ module _ (x f : ℕ) (b : State) (fine : bitsCheck (badBits x f) (b .machine) �
   pub record Standing (s : State) (image : List ℕ) (phase : Phase) (vs : List Verdict) : Type 0 where
     pub passes : machineCheck (s .machine) ≡ Passed
     pub kinds : Typed s
-    pub job : badJob (s .machine .width) (s .held) ≡ false
+    pub job : jobCheck (s .machine .width) (s .held) ≡ Passed
     pub size : length (s .machine .responses) ≡ length (b .machine .responses)
     pub trail : Answers x f (shade (b .machine)) (vs ++ pending phase) (shade (s .machine))
     pub kept : Kept image vs
@@ -118,7 +117,7 @@ module _ (x f : ℕ) (b : State) (fine : bitsCheck (badBits x f) (b .machine) �
       record {
         passes = p .0 .machine;
         kinds = typed;
-        job = p .0 .job;
+        job = p .0 .jobs;
         size = refl;
         trail = none-yet;
         kept = record { state = b; is = p .1; stored = p .0; size = refl; trail = none-yet };
@@ -154,8 +153,8 @@ module _ (x f : ℕ) (b : State) (fine : bitsCheck (badBits x f) (b .machine) �
       record {
         passes = ap machineCheck e ∙ same-machine (m .width) (m .words) (m .responses) _ (length-set (m .responses) (k .0) _) ∙ w .passes;
         kinds = record {
-          responses = rw e (set-bytes (m .responses) (k .0) _ (w .kinds .responses) (answered-byte x f v (response m (k .0))));
-          constant = w .kinds .constant;
+          responses = rw e (set-responses (m .responses) (k .0) _ (w .kinds .responses) (answered-fits x f v (response m (k .0))));
+          job = w .kinds .job;
         };
         job = rw e (w .job);
         size = ap (λ (z : Machine). length (z .responses)) e ∙ length-set (m .responses) (k .0) _ ∙ w .size;
@@ -203,8 +202,8 @@ module _ (x f : ℕ) (b : State) (fine : bitsCheck (badBits x f) (b .machine) �
       let e : t ≡ i .state = resumed-machine (i .state) (i .stored) (rw (← (i .is)) r) in
       rw e (record {
         passes = i .stored .machine;
-        kinds = record { responses = i .stored .responses; constant = i .stored .constant };
-        job = i .stored .job;
+        kinds = record { responses = i .stored .responses; job = i .stored .typed };
+        job = i .stored .jobs;
         size = i .size;
         trail = rw (append-nil vs) (i .trail);
         kept = w .kept;

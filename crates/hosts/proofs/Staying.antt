@@ -1,6 +1,6 @@
 -- A held job that is in order stays so after each step, whatever the count: so what stands after any accepted calls can be stored.
 -- Document 01, number 8: "a job kind or place not in the table; .. after the start, an unused field not 0".
-use Prim.Native.Nat.{ℕ, zero, suc, _+_, _^_, _<_}
+use Prim.Native.Nat.{ℕ, zero, suc, _+_, _<_}
 use mathlib.Core.Path.{_≡_, refl, sym, ap, _∙_}
 use mathlib.Core.Bool.{Bool, true, false, not, _&&_, _||_}
 use native.Mathlib.Omega.{arith}
@@ -8,15 +8,17 @@ use lib.Dec.{ltb, eqb}
 use borrow.Author.Tests.{eqb-true, ltb-true, lt-ltb}
 use Rattle.laws.specs.Bits.{pick}
 use Rattle.laws.proofs.Bits.{and-left, and-right}
-use Rattle.machine.specs.Refusals.{answerBy}
+use Rattle.machine.specs.Refusals.{_else_, refuse, answerBy}
+use Rattle.machine.proofs.Refusals.{else-passed}
 use Rattle.job_plans.specs.declared.Job.{Job}
 use Rattle.job_plans.specs.declared.Held.{Held}
 use Rattle.job_plans.specs.declared.Held.the-variants.{Nothing, Holds}
-use Rattle.job_plans.specs.Fields.{Kind, greatest, smallest, scaledAdd, product, unknown, kindOf, badExtreme, badScaledAdd, badProduct, badUsedFor, badUsed, isZero, unusedZeroFor, unusedZero}
-use Rattle.job_plans.specs.Places.{atPlace, inTableFor, inTable, badHeld, moved, nextBelow, nextAbove, nextWithin, afterTrial, afterSecond, next}
+use Rattle.job_plans.specs.Fields.{Kind, greatest, smallest, scaledAdd, product, unknown, kindOf, extremeCheck, scaledAddCheck, productCheck, usedCheckFor, usedCheck, isZero, unusedZeroFor, unusedZero}
+use Rattle.job_plans.specs.Places.{atPlace, inTableFor, inTable, heldCheck, moved, nextBelow, nextAbove, nextWithin, afterTrial, afterSecond, next}
 use Rattle.job_plans.proofs.Fair.{Fair, fair}
 use Rattle.machine.specs.declared.Panel.{Panel}
 use Rattle.machine.specs.declared.Lines.{Lines}
+use Rattle.machine.specs.declared.Refusal.{Refusal}
 use Rattle.machine.specs.declared.Check.{Check}
 use Rattle.machine.specs.declared.Check.the-variants as check
 use Rattle.machine.specs.Machine.{Machine}
@@ -28,13 +30,13 @@ use Rattle.jobs.specs.Calls.{startOf, stepCheck, gave, stepOf}
 use Rattle.jobs.specs.Runs.{State, heldAfter, stepped, steps}
 use Rattle.ends.specs.Ends.{Accepted}
 use Rattle.ends.proofs.Starts.{accepted-is}
-use Rattle.image.specs.Calls.{badJob}
-use Rattle.image_layout.specs.Format.{AreBytes}
+use Rattle.image_layout.specs.Format.{AreResponses, JobFits}
 use Rattle.hosts.specs.Rounds as events
 use Rattle.hosts.specs.Rounds.{Other}
 use Rattle.hosts.specs.Images.{Typed}
 use Rattle.hosts.proofs.Leaving.{accepted-pulse, accepted-step}
-use Rattle.hosts.proofs.Jobs.{storable}
+use Rattle.hosts.proofs.Images.{jobCheck}
+use Rattle.hosts.proofs.Jobs.{alone-passed, storable}
 
 -- ---- bools
 
@@ -50,16 +52,16 @@ or-right : (a b : Bool) → b ≡ true → (a || b) ≡ true
 or-right true b h = refl
 or-right false b h = h
 
-all-right : (a b c : Bool) → a ≡ false → b ≡ true → c ≡ true → (a || not b || not c) ≡ false
-all-right a b c h g k = rw (h, g, k)
+all-right : (c : Check) (r s : Refusal) (a b : Bool) → c ≡ check.Passed → a ≡ true → b ≡ true → (c else refuse r (not a) else refuse s (not b)) ≡ check.Passed
+all-right c r s a b h g k = rw (h, g, k)
 
 pulsed-width : (m : Machine) (p : Panel) (l : Lines) → pulsed m p l .width ≡ m .width
 unfolding pulsed
 pulsed-width m p l = refl
 
 module _ (n : ℕ) (o : Job) where
-  used-same : (k : Kind) (phase i j : ℕ) → badUsedFor k n (moved o phase i j) ≡ badUsedFor k n o
-  unfolding badExtreme badScaledAdd badProduct
+  used-same : (k : Kind) (phase i j : ℕ) → usedCheckFor k n (moved o phase i j) ≡ usedCheckFor k n o
+  unfolding extremeCheck scaledAddCheck productCheck
   used-same greatest phase i j = refl
   used-same smallest phase i j = refl
   used-same scaledAdd phase i j = refl
@@ -67,15 +69,16 @@ module _ (n : ℕ) (o : Job) where
   used-same unknown phase i j = refl
 
   -- in order at another place, where the unused fields and the place are right there too
-  good : (k : Kind) → kindOf (o .kind) ≡ k → badUsedFor k n o ≡ false → (phase i j : ℕ) → unusedZeroFor k (moved o phase i j) ≡ true
-      → inTableFor k (moved o phase i j) ≡ true → badJob n (Holds (moved o phase i j)) ≡ false
-  unfolding badHeld badUsed unusedZero inTable
+  good : (k : Kind) → kindOf (o .kind) ≡ k → usedCheckFor k n o ≡ check.Passed → (phase i j : ℕ) → unusedZeroFor k (moved o phase i j) ≡ true
+      → inTableFor k (moved o phase i j) ≡ true → jobCheck n (Holds (moved o phase i j)) ≡ check.Passed
+  unfolding heldCheck usedCheck unusedZero inTable
   good k e u phase i j z t =
       let q = moved o phase i j in
-      ap (λ (k : Kind). badUsedFor k n q || not (unusedZeroFor k q) || not (inTableFor k q)) e
-      ∙ all-right (badUsedFor k n q) (unusedZeroFor k q) (inTableFor k q) (used-same k phase i j ∙ u) z t
+      alone-passed _
+      (all-right (usedCheck n q) _ _ (unusedZero q) (inTable q) (ap (λ (k : Kind). usedCheckFor k n q) e ∙ used-same k phase i j ∙ u)
+      (ap (λ (k : Kind). unusedZeroFor k q) e ∙ z) (ap (λ (k : Kind). inTableFor k q) e ∙ t))
 
-  picked : (t : Bool) (h g : Held) → (t ≡ true → badJob n h ≡ false) → badJob n g ≡ false → badJob n (pick t h g) ≡ false
+  picked : (t : Bool) (h g : Held) → (t ≡ true → jobCheck n h ≡ check.Passed) → jobCheck n g ≡ check.Passed → jobCheck n (pick t h g) ≡ check.Passed
   picked true h g a b = a refl
   picked false h g a b = b
 
@@ -84,15 +87,15 @@ module _ (n : ℕ) (o : Job) where
   module _ (k : Kind) (e : kindOf (o .kind) ≡ k) (f : Fair n o k)
       (zeros : (phase i : ℕ) → unusedZeroFor k (moved o phase i 0) ≡ true)
       (at : (phase i : ℕ) → (eqb phase 1 || eqb phase 2) ≡ true → i < o .a .width → inTableFor k (moved o phase i 0) ≡ true) (small : o .i < o .a .width) where
-    moves : (phase i : ℕ) → (eqb phase 1 || eqb phase 2) ≡ true → i < o .a .width → badJob n (Holds (moved o phase i 0)) ≡ false
+    moves : (phase i : ℕ) → (eqb phase 1 || eqb phase 2) ≡ true → i < o .a .width → jobCheck n (Holds (moved o phase i 0)) ≡ check.Passed
     moves phase i p l = good k e (f .used) phase i 0 (zeros phase i) (at phase i p l)
 
-    below : (i : ℕ) → i ≡ o .i → badJob n (nextBelow o i) ≡ false
+    below : (i : ℕ) → i ≡ o .i → jobCheck n (nextBelow o i) ≡ check.Passed
     below zero h = refl
     below (suc i) h = moves 1 i refl (omega arith)
 
-    extreme-next : (c : ℕ) → badJob n (pick (eqb (o .phase) 0) (Holds (moved o 1 (o .i) 0))
-        (pick (eqb (o .phase) 1) (pick (eqb c 0) (nextBelow o (o .i)) (Holds (moved o 2 (o .i) 0))) (nextBelow o (o .i)))) ≡ false
+    extreme-next : (c : ℕ) → jobCheck n (pick (eqb (o .phase) 0) (Holds (moved o 1 (o .i) 0))
+        (pick (eqb (o .phase) 1) (pick (eqb c 0) (nextBelow o (o .i)) (Holds (moved o 2 (o .i) 0))) (nextBelow o (o .i)))) ≡ check.Passed
     extreme-next c =
         picked (eqb (o .phase) 0) _ _ (λ q. moves 1 (o .i) refl small)
         (picked (eqb (o .phase) 1) _ _ (λ q. picked (eqb c 0) (nextBelow o (o .i)) (Holds (moved o 2 (o .i) 0)) (λ z. below (o .i) refl) (moves 2 (o .i) refl small)) (below (o .i) refl))
@@ -121,7 +124,7 @@ module _ (n : ℕ) (o : Job) where
   module _ (e : kindOf (o .kind) ≡ scaledAdd) (f : Fair n o scaledAdd) where
     scaled-zeros : (phase i : ℕ) → unusedZeroFor scaledAdd (moved o phase i 0) ≡ true
     scaled-zeros phase i =
-        let rest = eqb (o .x) 0 && isZero (o .b) in
+        let rest = eqb (o .x .0) 0 && isZero (o .b) in
         let z : o .j ≡ 0 = eqb-true (o .j) 0 (and-right rest (eqb (o .j) 0) (f .zero)) in ap (λ (j : ℕ). rest && eqb j 0) (sym z) ∙ f .zero
 
     in-a : ltb (o .i) (o .a .width) ≡ true
@@ -131,10 +134,10 @@ module _ (n : ℕ) (o : Job) where
     in-p = and-right (atPlace o && ltb (o .i) (o .a .width)) (ltb (o .i) (o .p .width)) (f .place)
 
     scaled-moves : (phase i j : ℕ) → (eqb phase 1 || eqb phase 2) ≡ true → unusedZeroFor scaledAdd (moved o phase i j) ≡ true
-        → ltb i (o .a .width) ≡ true → ltb i (o .p .width) ≡ true → badJob n (Holds (moved o phase i j)) ≡ false
+        → ltb i (o .a .width) ≡ true → ltb i (o .p .width) ≡ true → jobCheck n (Holds (moved o phase i j)) ≡ check.Passed
     scaled-moves phase i j p z a b = good scaledAdd e (f .used) phase i j z (both _ _ (both _ _ p a) b)
 
-    scaled-next : badJob n (pick (eqb (o .phase) 0) (Holds (moved o 1 (o .i) 0)) (pick (eqb (o .phase) 1) (Holds (moved o 2 (o .i) (o .j))) (nextAbove o))) ≡ false
+    scaled-next : jobCheck n (pick (eqb (o .phase) 0) (Holds (moved o 1 (o .i) 0)) (pick (eqb (o .phase) 1) (Holds (moved o 2 (o .i) (o .j))) (nextAbove o))) ≡ check.Passed
     scaled-next =
         let more = ltb (o .i + 1) (o .a .width) && ltb (o .i + 1) (o .p .width) in
         picked (eqb (o .phase) 0) _ _ (λ q. scaled-moves 1 (o .i) 0 refl (scaled-zeros 1 (o .i)) in-a in-p)
@@ -162,12 +165,12 @@ module _ (n : ℕ) (o : Job) where
     sum-in-p = ltb-true (o .i + o .j) (o .p .width) (and-right (at-i && ltb (o .j) (o .b .width)) (ltb (o .i + o .j) (o .p .width)) (f .place))
 
     product-moves : (phase i j : ℕ) → (eqb phase 1 || eqb phase 2) ≡ true → i < o .a .width → j < o .b .width → i + j < o .p .width
-        → badJob n (Holds (moved o phase i j)) ≡ false
+        → jobCheck n (Holds (moved o phase i j)) ≡ check.Passed
     product-moves phase i j p a b c =
         good product e (f .used) phase i j (f .zero)
         (both _ _ (both _ _ (both _ _ p (lt-ltb i (o .a .width) a)) (lt-ltb j (o .b .width) b)) (lt-ltb (i + j) (o .p .width) c))
 
-    product-next : badJob n (pick (eqb (o .phase) 0) (Holds (moved o 1 (o .i) 0)) (pick (eqb (o .phase) 1) (Holds (moved o 2 (o .i) (o .j))) (nextWithin o))) ≡ false
+    product-next : jobCheck n (pick (eqb (o .phase) 0) (Holds (moved o 1 (o .i) 0)) (pick (eqb (o .phase) 1) (Holds (moved o 2 (o .i) (o .j))) (nextWithin o))) ≡ check.Passed
     product-next =
         let more-j = ltb (o .j + 1) (o .b .width) && ltb (o .i + (o .j + 1)) (o .p .width) in
         let more-i = ltb (o .i + 1) (o .a .width) && ltb (o .i + 1) (o .p .width) in
@@ -184,12 +187,12 @@ module _ (n : ℕ) (o : Job) where
 
   -- ---- every kind
 
-  pub stays : badHeld n o ≡ false → (c : ℕ) → badJob n (next o c) ≡ false
+  pub stays : heldCheck n o ≡ check.Passed → (c : ℕ) → jobCheck n (next o c) ≡ check.Passed
   unfolding next
   stays h c = go (kindOf (o .kind)) refl (fair n o h)
     where
       go : (k : Kind) → kindOf (o .kind) ≡ k → Fair n o k
-          → badJob n (pick (eqb (o .phase) 0) (Holds (moved o 1 (o .i) 0)) (pick (eqb (o .phase) 1) (afterTrial k o c) (afterSecond k o))) ≡ false
+          → jobCheck n (pick (eqb (o .phase) 0) (Holds (moved o 1 (o .i) 0)) (pick (eqb (o .phase) 1) (afterTrial k o c) (afterSecond k o))) ≡ check.Passed
       go greatest e f = extreme-next greatest e f (λ ph i. extreme-zeros (f .zero)) (λ ph i p l. extreme-at ph i p l) (extreme-small (f .place)) c
       go smallest e f = extreme-next smallest e f (λ ph i. extreme-zeros (f .zero)) (λ ph i p l. extreme-at ph i p l) (extreme-small (f .place)) c
       go scaledAdd e f = scaled-next e f
@@ -198,24 +201,24 @@ module _ (n : ℕ) (o : Job) where
 
 -- ---- any accepted call that is none of a round's
 
-start-held : (m : Machine) (h : Held) (o q : Job) → AreBytes (m .responses) → o .c < 2 ^ 64 → startOf m h o ≡ started.Holds q → badJob (m .width) (Holds q) ≡ false
+start-held : (m : Machine) (h : Held) (o q : Job) → AreResponses (m .responses) → JobFits o → startOf m h o ≡ started.Holds q → jobCheck (m .width) (Holds q) ≡ check.Passed
 unfolding steps
 start-held m h o q b c e =
     let p = accepted-is m h o q e in
     let a : Accepted m o = ap (λ (h : Held). startOf m h o) (sym (p .0)) ∙ e ∙ ap started.Holds (p .1) in
-    rw (p .1) (storable m o a (record { responses = b; constant = c }) 0 (omega arith) .job)
+    rw (p .1) (storable m o a (record { responses = b; job = (c, tt) }) 0 (omega arith) .jobs)
 
 gave-held : (s : State) {k : Command} {c : ℕ} {h : Held} → stepOf (s .machine) (s .held) ≡ answer.Gave k c h
-    → badJob (s .machine .width) (s .held) ≡ false → badJob (s .machine .width) (stepped s .held) ≡ false
+    → jobCheck (s .machine .width) (s .held) ≡ check.Passed → jobCheck (s .machine .width) (stepped s .held) ≡ check.Passed
 unfolding stepped stepOf
 gave-held s e b = go (stepCheck (s .machine) (s .held)) (s .held) b
   where
-    go : (c : Check) (h : Held) → badJob (s .machine .width) h ≡ false → badJob (s .machine .width) (heldAfter (answerBy c answer.Refused (gave (s .machine) h)) h) ≡ false
+    go : (c : Check) (h : Held) → jobCheck (s .machine .width) h ≡ check.Passed → jobCheck (s .machine .width) (heldAfter (answerBy c answer.Refused (gave (s .machine) h)) h) ≡ check.Passed
     go (check.Refused r) h b = b
     go check.Passed Nothing b = b
-    go check.Passed (Holds o) b = stays (s .machine .width) o b _
+    go check.Passed (Holds o) b = stays (s .machine .width) o (else-passed (heldCheck (s .machine .width) o) check.Passed b .0) _
 
-pub other-job : {s t : State} → Other s t → Typed s → badJob (s .machine .width) (s .held) ≡ false → badJob (t .machine .width) (t .held) ≡ false
+pub other-job : {s t : State} → Other s t → Typed s → jobCheck (s .machine .width) (s .held) ≡ check.Passed → jobCheck (t .machine .width) (t .held) ≡ check.Passed
 other-job (events.pulses {s} p l a) y h = rw (accepted-pulse (s .machine) p l a, pulsed-width (s .machine) p l) h
 other-job (events.starts {s} {q} o c a) y h = start-held (s .machine) (s .held) o q (y .responses) c a
 other-job (events.steps {s} {k} a) y h = rw (accepted-step s a, pulsed-width (s .machine) (k .panel) (k .lines)) (gave-held s a h)

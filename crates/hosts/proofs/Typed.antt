@@ -1,4 +1,4 @@
--- A pulse leaves bytes in the responses, and a job's c stays what it is: what the types say holds after any calls.
+-- A pulse leaves responses in the responses, and a job's key, care and c stay what they are, or c is 0: what the types say holds after any calls.
 use Prim.Native.Nat.{ℕ, zero, suc, _+_, _^_, _<_}
 use mathlib.Core.Bool.{Bool, true, false, _&&_}
 use mathlib.Core.List.{List, [], _∷_}
@@ -23,90 +23,100 @@ use Rattle.jobs.specs.Calls.{stepCheck, gave, stepOf, machineAfter, afterStep}
 use Rattle.jobs.specs.Runs.{State, heldAfter, stepped}
 use Rattle.machine.specs.declared.Check.{Check}
 use Rattle.machine.specs.declared.Check.the-variants as check
-use Rattle.image_layout.specs.Format.{AreBytes}
-use Rattle.image.specs.Calls.{ConstantFits}
+use Rattle.image_layout.specs.Sizes.{responseSize}
+use Rattle.image_layout.specs.Format.{heldJobs, AreResponses, JobFits, JobsFit}
 use Rattle.hosts.specs.Images.{Typed}
 use Rattle.hosts.proofs.Below.{bit-below, digit-below, flip-below, either-below}
 
 -- ---- responses
 
-response-byte : (n : ℕ) (p : Panel) (l : Lines) (k w r : ℕ) → r < 256 → responseAfter n p l k w r < 256
+response-stays : (n : ℕ) (p : Panel) (l : Lines) (k w r : ℕ) → r < 256 ^ responseSize → responseAfter n p l k w r < 256 ^ responseSize
 unfolding responseAfter marked flipped
-response-byte n p l k w r h =
+response-stays n p l k w r h =
     either-below (l .search)
     (number-lt responseBits _ (λ i g. either-below (eqb (bit (p .target) i) 1) (digit-below (matches n p w r)) (bit-below r i)))
     (either-below (l .complement && selected (p .key) (p .care) r)
     (number-lt responseBits _ (λ i g. either-below (eqb (bit (p .target) i) 1) (flip-below (bit-below r i)) (bit-below r i))) h)
 
-zip-bytes : (f : ℕ → ℕ → ℕ → ℕ) → ((k w r : ℕ) → r < 256 → f k w r < 256) → (j : ℕ) (ws rs : List ℕ) → AreBytes rs → AreBytes (zip f j ws rs)
+zip-responses : (f : ℕ → ℕ → ℕ → ℕ) → ((k w r : ℕ) → r < 256 ^ responseSize → f k w r < 256 ^ responseSize) → (j : ℕ) (ws rs : List ℕ) → AreResponses rs → AreResponses (zip f j ws rs)
 unfolding zip
-zip-bytes f h j [] rs b = tt
-zip-bytes f h j (w ∷ ws) [] b = tt
-zip-bytes f h j (w ∷ ws) (r ∷ rs) b = (h j w r (b .0), zip-bytes f h (suc j) ws rs (b .1))
+zip-responses f h j [] rs b = tt
+zip-responses f h j (w ∷ ws) [] b = tt
+zip-responses f h j (w ∷ ws) (r ∷ rs) b = (h j w r (b .0), zip-responses f h (suc j) ws rs (b .1))
 
-pub pulsed-bytes : (m : Machine) (p : Panel) (l : Lines) → AreBytes (m .responses) → AreBytes (pulsed m p l .responses)
+pub pulsed-responses : (m : Machine) (p : Panel) (l : Lines) → AreResponses (m .responses) → AreResponses (pulsed m p l .responses)
 unfolding pulsed
-pulsed-bytes m p l h = zip-bytes (responseAfter (m .width) p l) (response-byte (m .width) p l) 0 (m .words) (m .responses) h
+pulsed-responses m p l h = zip-responses (responseAfter (m .width) p l) (response-stays (m .width) p l) 0 (m .words) (m .responses) h
 
 -- ---- the job
 
-pick-fits : (t : Bool) (h g : Held) → ConstantFits h → ConstantFits g → ConstantFits (pick t h g)
+abbrev Fits : Held → Type 0
+Fits h = JobsFit (heldJobs h)
+
+pick-fits : (t : Bool) (h g : Held) → Fits h → Fits g → Fits (pick t h g)
 pick-fits true h g a b = a
 pick-fits false h g a b = b
 
-module _ (o : Job) (h : o .c < 2 ^ 64) where
-  pub first-fits : ConstantFits (Holds (first o))
+module _ (o : Job) (h : JobFits o) where
+  pub first-fits : Fits (Holds (first o))
   unfolding first
-  first-fits = go (kindOf (o .kind))
+  first-fits = (go (kindOf (o .kind)), tt)
     where
-      go : (k : Kind) → firstFor k o .c < 2 ^ 64
-      go greatest = omega arith
-      go smallest = omega arith
+      go : (k : Kind) → JobFits (firstFor k o)
+      go greatest = (h .0, h .1, omega arith)
+      go smallest = (h .0, h .1, omega arith)
       go scaledAdd = h
-      go product = omega arith
+      go product = (h .0, h .1, omega arith)
       go unknown = h
 
-  below-fits : (i : ℕ) → ConstantFits (nextBelow o i)
+  -- wherever it stands
+  moved-fits : (phase i j : ℕ) → Fits (Holds (moved o phase i j))
+  moved-fits phase i j = (h, tt)
+
+  below-fits : (i : ℕ) → Fits (nextBelow o i)
   below-fits zero = tt
-  below-fits (suc i) = h
+  below-fits (suc i) = moved-fits 1 i 0
 
-  above-fits : ConstantFits (nextAbove o)
-  above-fits = pick-fits (ltb (o .i + 1) (o .a .width) && ltb (o .i + 1) (o .p .width)) (Holds (moved o 1 (o .i + 1) 0)) Nothing h tt
+  above-fits : Fits (nextAbove o)
+  above-fits =
+      pick-fits (ltb (o .i + 1) (o .a .width) && ltb (o .i + 1) (o .p .width)) (Holds (moved o 1 (o .i + 1) 0)) Nothing (moved-fits 1 (o .i + 1) 0) tt
 
-  within-fits : ConstantFits (nextWithin o)
-  within-fits = pick-fits (ltb (o .j + 1) (o .b .width) && ltb (o .i + (o .j + 1)) (o .p .width)) (Holds (moved o 1 (o .i) (o .j + 1))) (nextAbove o) h above-fits
+  within-fits : Fits (nextWithin o)
+  within-fits =
+      pick-fits (ltb (o .j + 1) (o .b .width) && ltb (o .i + (o .j + 1)) (o .p .width)) (Holds (moved o 1 (o .i) (o .j + 1))) (nextAbove o)
+      (moved-fits 1 (o .i) (o .j + 1)) above-fits
 
-  trial-fits : (k : Kind) (n : ℕ) → ConstantFits (afterTrial k o n)
-  trial-fits greatest n = pick-fits (eqb n 0) (nextBelow o (o .i)) (Holds (moved o 2 (o .i) 0)) (below-fits (o .i)) h
-  trial-fits smallest n = pick-fits (eqb n 0) (nextBelow o (o .i)) (Holds (moved o 2 (o .i) 0)) (below-fits (o .i)) h
-  trial-fits scaledAdd n = h
-  trial-fits product n = h
+  trial-fits : (k : Kind) (n : ℕ) → Fits (afterTrial k o n)
+  trial-fits greatest n = pick-fits (eqb n 0) (nextBelow o (o .i)) (Holds (moved o 2 (o .i) 0)) (below-fits (o .i)) (moved-fits 2 (o .i) 0)
+  trial-fits smallest n = pick-fits (eqb n 0) (nextBelow o (o .i)) (Holds (moved o 2 (o .i) 0)) (below-fits (o .i)) (moved-fits 2 (o .i) 0)
+  trial-fits scaledAdd n = moved-fits 2 (o .i) (o .j)
+  trial-fits product n = moved-fits 2 (o .i) (o .j)
   trial-fits unknown n = tt
 
-  second-fits : (k : Kind) → ConstantFits (afterSecond k o)
+  second-fits : (k : Kind) → Fits (afterSecond k o)
   second-fits greatest = below-fits (o .i)
   second-fits smallest = below-fits (o .i)
   second-fits scaledAdd = above-fits
   second-fits product = within-fits
   second-fits unknown = tt
 
-  next-fits : (n : ℕ) → ConstantFits (next o n)
+  next-fits : (n : ℕ) → Fits (next o n)
   unfolding next
   next-fits n =
       let k = kindOf (o .kind) in
-      pick-fits (eqb (o .phase) 0) (Holds (moved o 1 (o .i) 0)) _ h
+      pick-fits (eqb (o .phase) 0) (Holds (moved o 1 (o .i) 0)) _ (moved-fits 1 (o .i) 0)
       (pick-fits (eqb (o .phase) 1) (afterTrial k o n) (afterSecond k o) (trial-fits k n) (second-fits k))
 
 -- ---- a step, accepted or refused
 
 pub stepped-typed : (s : State) → Typed s → Typed (stepped s)
 unfolding stepped afterStep stepOf
-stepped-typed s t = go (stepCheck (s .machine) (s .held)) (s .held) (t .constant)
+stepped-typed s t = go (stepCheck (s .machine) (s .held)) (s .held) (t .job)
   where
     after : Check → Held → State
     after c h = record { machine = machineAfter (answerBy c answer.Refused (gave (s .machine) h)) (s .machine); held = heldAfter (answerBy c answer.Refused (gave (s .machine) h)) h }
 
-    go : (c : Check) (h : Held) → ConstantFits h → Typed (after c h)
-    go (check.Refused r) h f = record { responses = t .responses; constant = f }
-    go check.Passed Nothing f = record { responses = t .responses; constant = f }
-    go check.Passed (Holds o) f = record { responses = pulsed-bytes (s .machine) _ _ (t .responses); constant = next-fits o f _ }
+    go : (c : Check) (h : Held) → Fits h → Typed (after c h)
+    go (check.Refused r) h f = record { responses = t .responses; job = f }
+    go check.Passed Nothing f = record { responses = t .responses; job = f }
+    go check.Passed (Holds o) f = record { responses = pulsed-responses (s .machine) _ _ (t .responses); job = next-fits o (f .0) _ }

@@ -1,5 +1,5 @@
 -- Document 01, 'The image': storing and resuming, as a host does them by the calls `write` and `read`.
-use Rattle.image_layout.specs.Format.{AreBytes}
+use Rattle.image_layout.specs.Format.{heldJobs, AreResponses, JobsFit}
 use Prim.Native.Nat.{ℕ}
 use mathlib.Core.Path.{_≡_}
 use mathlib.Core.List.{List}
@@ -9,7 +9,7 @@ use Rattle.job_plans.specs.declared.Held.{Held}
 use Rattle.jobs.specs.Runs.{State}
 use Rattle.image.specs.declared.Wrote.the-variants as wrote
 use Rattle.image.specs.declared.Read.the-variants as read
-use Rattle.image.specs.Calls.{writeOf, written, readOf, wordsRead, responsesRead, ConstantFits}
+use Rattle.image.specs.Calls.{writeOf, written, readOf, wordsRead, responsesRead}
 
 -- the host stores: writing is accepted, and the image is the first n bytes of the output, whatever that held before
 pub record Stores (s : State) (image : List ℕ) : Type 0 where
@@ -29,7 +29,7 @@ pub record Resumes (image : List ℕ) (s : State) : Type 0 where
   pub accepted : readOf image (length words) (length responses) ≡ read.Machine width size held
   pub stands : s ≡ record { machine = machine width (take size (wordsRead image words responses)) (take size (responsesRead image words responses)); held = held }
 
--- what the types of the buffers and of the job say: responses are bytes, c is a number of 64 bits
+-- what the types of the buffers and of the job say: responses, key and care are responses, c is a number of 64 bits
 pub record Typed (s : State) : Type 0 where
-  pub responses : AreBytes (s .machine .responses)
-  pub constant : ConstantFits (s .held)
+  pub responses : AreResponses (s .machine .responses)
+  pub job : JobsFit (heldJobs (s .held))

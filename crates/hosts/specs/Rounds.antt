@@ -1,5 +1,5 @@
 -- Document 01, 'The hand-out round': a host's round, event by event, over machines and stored images.
-use Prim.Native.Nat.{ℕ, suc, _^_, _<_}
+use Prim.Native.Nat.{ℕ, suc, _<_}
 use mathlib.Core.Path.{_≡_}
 use mathlib.Core.List.{List, [], _∷_, _++_}
 use lib.ListN.{length, take}
@@ -7,6 +7,7 @@ use Rattle.laws.specs.Bits.{bit}
 use Rattle.machine.specs.declared.Panel.{Panel}
 use Rattle.machine.specs.declared.Lines.{Lines}
 use Rattle.machine.specs.declared.WordSlice.{WordSlice}
+use Rattle.machine.specs.declared.ResponseBit.{ResponseBit}
 use Rattle.machine.specs.declared.Refusal.{Refusal}
 use Rattle.machine.specs.declared.Check.the-variants.{Passed}
 use Rattle.machine.specs.Machine.{Machine}
@@ -25,17 +26,18 @@ use Rattle.jobs.specs.declared.Stepped.the-variants as answer
 use Rattle.job_plans.specs.Fields.{Kind, greatest, smallest, scaledAdd, product, unknown, kindOf}
 use Rattle.jobs.specs.Calls.{startOf, stepOf}
 use Rattle.jobs.specs.Runs.{State, stepped}
+use Rattle.image_layout.specs.Format.{JobFits}
 use Rattle.hosts.specs.Images.{Stores, Resumes}
 
 -- ---- responders
 
 -- word k has X
-pub record Responder (x : ℕ) (m : Machine) (k : ℕ) : Type 0 where
+pub record Responder (x : ResponseBit) (m : Machine) (k : ℕ) : Type 0 where
   pub within : k < length (m .responses)
-  pub mark : bit (response m k) x ≡ 1
+  pub mark : bit (response m k) (x .0) ≡ 1
 
 -- how many words below k have X
-abbrev pub lower : ℕ → Machine → ℕ → ℕ
+abbrev pub lower : ResponseBit → Machine → ℕ → ℕ
 lower x m k = length (numbersWith x 0 (take k (m .responses)))
 
 -- ---- calls that are none of the round's
@@ -44,26 +46,26 @@ lower x m k = length (numbersWith x 0 (take k (m .responses)))
 pub data Other : State → State → Type 0 where
   pulses : {s : State} (p : Panel) (l : Lines) → pulseCheck (s .machine) p l ≡ Passed
       → Other s (record { machine = after (s .machine) p l; held = s .held })
-  starts : {s : State} {q : Job} (o : Job) → o .c < 2 ^ 64 → startOf (s .machine) (s .held) o ≡ started.Holds q
+  starts : {s : State} {q : Job} (o : Job) → JobFits o → startOf (s .machine) (s .held) o ≡ started.Holds q
       → Other s (record { machine = s .machine; held = Holds q })
   steps : {s : State} {k : Command} {c : ℕ} {h : Held} → stepOf (s .machine) (s .held) ≡ answer.Gave k c h → Other s (stepped s)
   loads : {s : State} → Other s s
 
 -- bits X and F of each response are as they were
-pub record Leaves (x f : ℕ) (m n : Machine) : Type 0 where
+pub record Leaves (x f : ResponseBit) (m n : Machine) : Type 0 where
   pub count : length (n .responses) ≡ length (m .responses)
-  pub mark : (k : ℕ) → k < length (m .responses) → bit (response n k) x ≡ bit (response m k) x
-  pub fault : (k : ℕ) → k < length (m .responses) → bit (response n k) f ≡ bit (response m k) f
+  pub mark : (k : ℕ) → k < length (m .responses) → bit (response n k) (x .0) ≡ bit (response m k) (x .0)
+  pub fault : (k : ℕ) → k < length (m .responses) → bit (response n k) (f .0) ≡ bit (response m k) (f .0)
 
 -- bit b is none of a job's working response bits: X and Y of an extreme, Y of the others
-abbrev pub ApartFor : Kind → Job → ℕ → Type 0
-ApartFor greatest o b = (b ≡ o .x → ⊥) × (b ≡ o .y → ⊥)
-ApartFor smallest o b = (b ≡ o .x → ⊥) × (b ≡ o .y → ⊥)
-ApartFor scaledAdd o b = b ≡ o .y → ⊥
-ApartFor product o b = b ≡ o .y → ⊥
+abbrev pub ApartFor : Kind → Job → ResponseBit → Type 0
+ApartFor greatest o b = (b .0 ≡ o .x .0 → ⊥) × (b .0 ≡ o .y .0 → ⊥)
+ApartFor smallest o b = (b .0 ≡ o .x .0 → ⊥) × (b .0 ≡ o .y .0 → ⊥)
+ApartFor scaledAdd o b = b .0 ≡ o .y .0 → ⊥
+ApartFor product o b = b .0 ≡ o .y .0 → ⊥
 ApartFor unknown o b = ⊥
 
-abbrev pub Apart : Job → ℕ → Type 0
+abbrev pub Apart : Job → ResponseBit → Type 0
 Apart o b = ApartFor (kindOf (o .kind)) o b
 
 -- ---- the host
@@ -94,7 +96,7 @@ pub data Entry : Type 0 where
 -- `Hosted x f b s image phase vs book`: a round over X and F that began at b; s stands now, `image` is the last stored, and vs are the verdicts of
 -- the answers that are stored.
 -- "The host shows before each answer, again after a stop .. and stores an image before the first show and after each answer, before the next show"
-pub data Hosted (x f : ℕ) (b : State) : State → List ℕ → Phase → List Verdict → List Entry → Type 0 where
+pub data Hosted (x f : ResponseBit) (b : State) : State → List ℕ → Phase → List Verdict → List Entry → Type 0 where
   opens : {image : List ℕ} → Stores b image → Hosted x f b b image ready [] []
   shows : {s : State} {image : List ℕ} {vs : List Verdict} {book : List Entry} {k : WordSlice} → Hosted x f b s image ready vs book
       → showOf x (s .machine) ≡ resolved.At k → Hosted x f b s image (showing (k .0)) vs (shown (k .0) ∷ book)
@@ -119,7 +121,7 @@ pub data Again (k : ℕ) : List Entry → Type 0 where
   stopped-more : {book : List Entry} → Again k book → Again k (stopped ∷ book)
 
 -- each word shown was the next responder of m, or, after a stop, the last one again; `many` responders have been shown
-pub data Orderly (x : ℕ) (m : Machine) : List Entry → ℕ → Type 0 where
+pub data Orderly (x : ResponseBit) (m : Machine) : List Entry → ℕ → Type 0 where
   nothing-yet : Orderly x m [] 0
   next : {book : List Entry} {many k : ℕ} → Orderly x m book many → Responder x m k → lower x m k ≡ many → Orderly x m (shown k ∷ book) (suc many)
   again : {book : List Entry} {many k : ℕ} → Orderly x m book many → Again k book → Orderly x m (shown k ∷ book) many

@@ -12,7 +12,7 @@ use Rattle.machine.specs.declared.ResponseBit.{ResponseBit}
 use Rattle.machine.specs.declared.Found.{Found}
 use Rattle.machine.specs.declared.Found.the-variants.{At, Nothing}
 use Rattle.machine.specs.declared.Refusal.{Refusal}
-use Rattle.machine.specs.declared.Refusal.the-variants.{Unfit, NotShown}
+use Rattle.machine.specs.declared.Refusal.the-variants.{NotShown}
 use Rattle.machine.specs.declared.Check.{Check}
 use Rattle.machine.specs.declared.Check.the-variants.{Passed, Refused}
 use Rattle.machine.specs.Machine.{Machine, responseBits}
@@ -45,7 +45,7 @@ both-passed c d h g = rw (h, g)
 -- ---- the bits are fit
 
 bit-by : (x : ResponseBit) → bitCheck x ≡ Passed → x .0 < responseBits
-bit-by x h = leb-false responseBits (x .0) (not-refused Unfit (leb responseBits (x .0)) h)
+bit-by x h = leb-false responseBits (x .0) (not-refused _ (leb responseBits (x .0)) h)
 
 pub bit-fits : (x : ResponseBit) (m : Machine) → showCheck x m ≡ Passed → x .0 < responseBits
 unfolding showCheck
@@ -59,7 +59,7 @@ pair-fits x f h =
     record {
       mark = bit-by x (a .0);
       fault = bit-by f (b .0);
-      differ = eqb-false (x .0) (f .0) (not-refused Unfit (eqb (x .0) (f .0)) (b .1));
+      differ = eqb-false (x .0) (f .0) (not-refused _ (eqb (x .0) (f .0)) (b .1));
     }
 
 -- a round's checks: the machine's, and the two bits'
