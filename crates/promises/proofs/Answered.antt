@@ -2,16 +2,15 @@
 -- "nothing lent changes".
 use Prim.Native.Nat.{ℕ}
 use mathlib.Core.Path.{_≡_, refl, sym, ap, _∙_}
-use mathlib.Core.Bool.{_||_}
 use mathlib.Core.List.{List, []}
 use lib.ListN.{length}
 use Rattle.machine.specs.declared.Panel.{Panel}
 use Rattle.machine.specs.declared.Lines.{Lines}
 use Rattle.machine.specs.declared.WordSlice.{WordSlice}
+use Rattle.machine.specs.declared.ResponseBit.{ResponseBit}
 use Rattle.machine.specs.declared.Found.{Found}
 use Rattle.machine.specs.declared.Found.the-variants.{At, Nothing}
 use Rattle.machine.specs.declared.Refusal.{Refusal}
-use Rattle.machine.specs.declared.Refusal.the-variants.{Unfit}
 use Rattle.machine.specs.declared.Check.{Check}
 use Rattle.machine.specs.declared.Check.the-variants.{Passed, Refused}
 use Rattle.machine.specs.declared.Answer.{Answer}
@@ -24,15 +23,15 @@ use Rattle.job_plans.specs.declared.Job.{Job}
 use Rattle.job_plans.specs.declared.Held.{Held}
 use Rattle.job_plans.specs.declared.Held.the-variants.{Holds}
 use Rattle.job_plans.specs.declared.Held.the-variants as held
-use Rattle.job_plans.specs.Fields.{badUsed}
+use Rattle.job_plans.specs.Places.{stepHeldCheck}
 use Rattle.jobs.specs.declared.Started.{Started}
 use Rattle.jobs.specs.declared.Started.the-variants as started
 use Rattle.jobs.specs.declared.Stepped.{Stepped}
 use Rattle.jobs.specs.declared.Stepped.the-variants as stepped
-use Rattle.jobs.specs.Calls.{isHeld, startCheck, startOf, badStep, stepCheck, gave, stepOf, machineAfter, afterStep}
+use Rattle.jobs.specs.Calls.{startCheck, startOf, stepCheck, gave, stepOf, machineAfter, afterStep}
 use Rattle.job_tally.specs.declared.Total.{Total}
 use Rattle.job_tally.specs.declared.Total.the-variants as total
-use Rattle.job_tally.specs.Totals.{badTotal, totalCheck, totalOf}
+use Rattle.job_tally.specs.Totals.{totalCheck, totalOf}
 use Rattle.jobs.specs.Runs.{State}
 use Rattle.image.specs.declared.Wrote.{Wrote}
 use Rattle.image.specs.declared.Wrote.the-variants as wrote
@@ -49,9 +48,9 @@ use Rattle.rounds.specs.Round as rounds
 use Rattle.handout.specs.declared.Report.{Report}
 use Rattle.handout.specs.declared.Report.the-variants as report
 use Rattle.handout.specs.Whole as whole
-use Rattle.handout.specs.Whole.{ended, roundCheck, reportOf, afterRound}
-use Rattle.rounds.specs.Round.{noBit, badBits, shown, showCheck, showOf, answerCheck, replyOf, answeredAt, afterAnswer}
-use Rattle.promises.proofs.Demand1.{answer-given, answerTable, first, given, machineTable, pulse-given, pulseTable, read-given, readTable, resolution-given, round-given, show-given, start-given, step-given, total-given, unfitTable, write-given, writeTable}
+use Rattle.handout.specs.Whole.{ended, reportOf, afterRound}
+use Rattle.rounds.specs.Round.{shown, showCheck, showOf, roundCheck, answerCheck, replyOf, answeredAt, afterAnswer}
+use Rattle.promises.proofs.Demand1.{answer-given, answerTable, first, given, machineTable, pulse-given, pulseTable, read-given, readTable, resolution-given, round-given, roundTable, show-given, showTable, start-given, startTable, step-given, stepsTable, total-given, totalTable, write-given, writeTable}
 
 -- ---- the answer tells that number and what it also answers: `tells..` is an answer's, 0 where the call is accepted
 
@@ -103,33 +102,33 @@ unfolding resolution
 resolution-tells key care m =
     by-check tellsResolved resolved.Refused (λ r. refl) (machineCheck m) _ (found-none (res.resolved key care m)) ∙ resolution-given m
 
-pub show-tells : (x : ℕ) (m : Machine) → tellsResolved (showOf x m) ≡ first (unfitTable (noBit x) m)
+pub show-tells : (x : ResponseBit) (m : Machine) → tellsResolved (showOf x m) ≡ first (showTable x m)
 unfolding showOf
 show-tells x m = by-check tellsResolved resolved.Refused (λ r. refl) (showCheck x m) _ (found-none (shown x m)) ∙ show-given x m
 
-pub answer-tells : (x f : ℕ) (k : WordSlice) (m : Machine) → rounds.told (replyOf x f k m) ≡ first (answerTable x f k m)
+pub answer-tells : (x f : ResponseBit) (k : WordSlice) (m : Machine) → rounds.told (replyOf x f k m) ≡ first (answerTable x f k m)
 unfolding replyOf
 answer-tells x f k m = by-check rounds.told reply.Refused (λ r. refl) (answerCheck x f k m) _ refl ∙ answer-given x f k m
 
-pub round-tells : (x f : ℕ) (vs : List ℕ) (m : Machine) → tellsReport (reportOf x f vs m) ≡ first (unfitTable (badBits x f) m)
+pub round-tells : (x f : ResponseBit) (vs : List ℕ) (m : Machine) → tellsReport (reportOf x f vs m) ≡ first (roundTable x f m)
 unfolding reportOf ended
 round-tells x f vs m = by-check tellsReport report.Refused (λ r. refl) (roundCheck x f m) _ refl ∙ round-given x f m
 
-pub start-tells : (m : Machine) (h : Held) (o : Job) → tellsStarted (startOf m h o) ≡ first (unfitTable (isHeld h || badUsed (m .width) o) m)
+pub start-tells : (m : Machine) (h : Held) (o : Job) → tellsStarted (startOf m h o) ≡ first (startTable m h o)
 unfolding startOf
 start-tells m h o = by-check tellsStarted started.Refused (λ r. refl) (startCheck m h o) _ refl ∙ start-given m h o
 
 -- a step while no job is held is turned down before anything is given
-step-by : (m : Machine) (h : Held) (c : Check) → tellsStepped (answerBy (c else refuse Unfit (badStep (m .width) h)) stepped.Refused (gave m h)) ≡ given (c else refuse Unfit (badStep (m .width) h))
+step-by : (m : Machine) (h : Held) (c : Check) → tellsStepped (answerBy (c else stepHeldCheck (m .width) h) stepped.Refused (gave m h)) ≡ given (c else stepHeldCheck (m .width) h)
 step-by m held.Nothing Passed = refl
 step-by m held.Nothing (Refused r) = refl
-step-by m (Holds o) c = by-check tellsStepped stepped.Refused (λ r. refl) (c else refuse Unfit (badStep (m .width) (Holds o))) _ refl
+step-by m (Holds o) c = by-check tellsStepped stepped.Refused (λ r. refl) (c else stepHeldCheck (m .width) (Holds o)) _ refl
 
-pub step-tells : (m : Machine) (h : Held) → tellsStepped (stepOf m h) ≡ first (unfitTable (badStep (m .width) h) m)
+pub step-tells : (m : Machine) (h : Held) → tellsStepped (stepOf m h) ≡ first (stepsTable m h)
 unfolding stepOf stepCheck
 step-tells m h = step-by m h (machineCheck m) ∙ step-given m h
 
-pub total-tells : (m : Machine) (h : Held) → tellsTotal (totalOf m h) ≡ first (unfitTable (badStep (m .width) h || badTotal h) m)
+pub total-tells : (m : Machine) (h : Held) → tellsTotal (totalOf m h) ≡ first (totalTable m h)
 unfolding totalOf
 total-tells m h = by-check tellsTotal total.Refused (λ r. refl) (totalCheck m h) _ refl ∙ total-given m h
 
@@ -151,11 +150,11 @@ pub pulse-unchanged : (m : Machine) (p : Panel) (l : Lines) → (first (pulseTab
 unfolding after
 pulse-unchanged m p l h = kept (pulseCheck m p l) (pulsed m p l) m (λ e. h (ap (λ (x : ℕ × ℕ). x .0) (sym (pulse-given m p l)) ∙ e))
 
-pub answer-unchanged : (x f : ℕ) (k : WordSlice) (v : Verdict) (m : Machine) → (first (answerTable x f k m) .0 ≡ 0 → ⊥) → afterAnswer x f k v m ≡ m
+pub answer-unchanged : (x f : ResponseBit) (k : WordSlice) (v : Verdict) (m : Machine) → (first (answerTable x f k m) .0 ≡ 0 → ⊥) → afterAnswer x f k v m ≡ m
 unfolding afterAnswer
 answer-unchanged x f k v m h = kept (answerCheck x f k m) (answeredAt x f k v m) m (λ e. h (ap (λ (x : ℕ × ℕ). x .0) (sym (answer-given x f k m)) ∙ e))
 
-pub round-unchanged : (x f : ℕ) (vs : List ℕ) (m : Machine) → (first (unfitTable (badBits x f) m) .0 ≡ 0 → ⊥) → afterRound x f vs m ≡ m
+pub round-unchanged : (x f : ResponseBit) (vs : List ℕ) (m : Machine) → (first (roundTable x f m) .0 ≡ 0 → ⊥) → afterRound x f vs m ≡ m
 unfolding afterRound
 round-unchanged x f vs m h = kept (roundCheck x f m) _ m (λ e. h (ap (λ (x : ℕ × ℕ). x .0) (sym (round-given x f m)) ∙ e))
 
@@ -163,7 +162,7 @@ not-given : (c : Check) (m : Machine) (a : Stepped) → (given c .0 ≡ 0 → �
 not-given Passed m a h = absurd (h refl)
 not-given (Refused r) m a h = refl
 
-pub step-unchanged : (m : Machine) (h : Held) → (first (unfitTable (badStep (m .width) h) m) .0 ≡ 0 → ⊥) → afterStep m h ≡ m
+pub step-unchanged : (m : Machine) (h : Held) → (first (stepsTable m h) .0 ≡ 0 → ⊥) → afterStep m h ≡ m
 unfolding afterStep stepOf
 step-unchanged m h g = not-given (stepCheck m h) m (gave m h) (λ e. g (ap (λ (x : ℕ × ℕ). x .0) (sym (step-given m h)) ∙ e))
 

@@ -1,38 +1,42 @@
 -- Demand 1: "Every call takes any input. What is wrong gets its refusal number from document 01, always the same one, and nothing lent changes."
 -- That calls take any input is said by their contracts, which have no `requires`. Here: each call's refusal; `Answered` has what its answer
 -- tells, and that nothing lent changes.
-use Prim.Native.Nat.{ℕ}
-use mathlib.Core.Path.{_≡_, refl, sym, _∙_}
-use mathlib.Core.Bool.{Bool, true, false, _||_}
-use lib.Dec.{ltb}
+use Prim.Native.Nat.{ℕ, _+_}
+use mathlib.Core.Path.{_≡_, refl, sym, ap, _∙_}
+use mathlib.Core.Bool.{Bool, true, false, not, _||_}
+use native.Mathlib.Omega.{arith}
+use lib.Dec.{ltb, leb, eqb}
 use mathlib.Core.List.{List, [], _∷_}
 use lib.ListN.{length}
 use Rattle.laws.specs.Bits.{pick}
 use Rattle.machine.specs.declared.Panel.{Panel}
 use Rattle.machine.specs.declared.Lines.{Lines}
 use Rattle.machine.specs.declared.WordSlice.{WordSlice}
+use Rattle.machine.specs.declared.ResponseBit.{ResponseBit}
 use Rattle.machine.specs.declared.Found.{Found}
 use Rattle.machine.specs.declared.Found.the-variants.{At, Nothing}
 use Rattle.machine.specs.declared.Refusal.{Refusal}
-use Rattle.machine.specs.declared.Refusal.the-variants.{Size, Width, PanelTooWide, TwoCodes, WrongLines, NoSuchWord, Unfit, NoRoom, NotShown}
+use Rattle.machine.specs.declared.Refusal.the-variants.{Size, Width, PanelTooWide, TwoCodes, WrongLines, NoSuchWord, NoRoom, NotShown}
 use Rattle.machine.specs.declared.Check.{Check}
 use Rattle.machine.specs.declared.Check.the-variants.{Passed, Refused}
-use Rattle.machine.specs.Machine.{Machine}
+use Rattle.machine.specs.Machine.{Machine, responseBits}
 use Rattle.machine.specs.Resolution.{lowest}
-use Rattle.machine.specs.Refusals.{badSize, badWidth, tooWide, badPanel, badCodes, badLines, badAddress, _else_, refuse, refuseWord, machineCheck, pulseCheck, tells, numberOf, alsoAnswers}
+use Rattle.machine.specs.Refusals.{badSize, badWidth, tooWide, badPanel, badCodes, badLines, badAddress, inCare, bitCheck, apartCheck, careCheck, _else_, refuse, refuseWord, machineCheck, pulseCheck, tells, numberOf, alsoAnswers}
+use Rattle.job_plans.specs.declared.Span.{Span}
 use Rattle.job_plans.specs.declared.Job.{Job}
 use Rattle.job_plans.specs.declared.Held.{Held}
-use Rattle.job_plans.specs.Fields.{badUsed}
-use Rattle.jobs.specs.Calls.{isHeld, startCheck, badStep, stepCheck}
-use Rattle.job_tally.specs.Totals.{badTotal, totalCheck}
+use Rattle.job_plans.specs.declared.Held.the-variants as held
+use Rattle.job_plans.specs.Fields.{Kind, greatest, smallest, scaledAdd, product, unknown, kindOf, emptyCheck, beyondCheck, overlaps, overlapCheck, extremeCheck, scaledAddCheck, productCheck, usedCheckFor, usedCheck, unusedZero, unusedCheck}
+use Rattle.job_plans.specs.Places.{inTable, placeCheck, heldCheck, stepHeldCheck}
+use Rattle.jobs.specs.Calls.{isHeld, freeCheck, startCheck, stepCheck}
+use Rattle.job_tally.specs.Totals.{isFirst, firstCheck, totalCheck}
 use Rattle.jobs.specs.Runs.{State}
 use Rattle.image_layout.specs.declared.Scanned.{Scanned}
 use Rattle.image_layout.specs.declared.Scanned.the-variants.{Sound, Broken}
-use Rattle.image_layout.specs.Format.{imageOf}
+use Rattle.image_layout.specs.Format.{imageOf, heldJobs}
 use Rattle.image_layout.specs.Reading.{wordsIn, scanned}
-use Rattle.image.specs.Calls.{badJob, writeCheck, refuseBytes, readCheck}
-use Rattle.handout.specs.Whole.{roundCheck}
-use Rattle.rounds.specs.Round.{noBit, badBits, otherThan, shown, bitsCheck, showCheck, answerCheck}
+use Rattle.image.specs.Calls.{jobsCheck, writeCheck, refuseBytes, readCheck}
+use Rattle.rounds.specs.Round.{otherThan, shown, showCheck, pairCheck, answerCheck, roundCheck}
 
 -- ---- a call's part of the table: the numbers it is checked for, in order, each with its condition and what it "also answers"
 
@@ -70,15 +74,86 @@ pulseTable m p l =
     ∷ entry 7 (badAddress (length (m .words)) p l)
     ∷ [])
 
--- `unfit` is what 8 judges of the call
-abbrev pub unfitTable : Bool → Machine → List Entry
-unfitTable unfit m = machineTable m (entry 8 unfit ∷ [])
+-- ---- 8, condition by condition, and then the rest of a call's table
 
-abbrev pub answerTable : ℕ → ℕ → WordSlice → Machine → List Entry
-answerTable x f k m = machineTable m (entry 8 (badBits x f) ∷ entry 11 (otherThan k (shown x m)) ∷ [])
+-- "a response bit above 7"
+abbrev pub aboveLast : ResponseBit → Entry
+aboveLast x = entry 8 (leb responseBits (x .0))
+
+-- "X equal to Y or F"
+abbrev pub alike : ResponseBit → ResponseBit → Entry
+alike x y = entry 8 (eqb (x .0) (y .0))
+
+-- "a working bit in care"
+abbrev pub amongCare : ℕ → ResponseBit → Entry
+amongCare care x = entry 8 (inCare care x)
+
+-- "a syllable of width 0 or beyond N"
+abbrev pub empty : Span → Entry
+empty s = entry 8 (eqb (s .width) 0)
+
+abbrev pub beyond : ℕ → Span → Entry
+beyond n s = entry 8 (ltb n (s .low .0 + s .width))
+
+-- "P overlapping A or B"
+abbrev pub shared : Span → Span → Entry
+shared p s = entry 8 (overlaps p s)
+
+abbrev pub pairTable : ResponseBit → ResponseBit → List Entry → List Entry
+pairTable x f rest = aboveLast x ∷ aboveLast f ∷ alike x f ∷ rest
+
+-- "Of a job 8 judges used fields"; "a job kind .. not in the table"
+abbrev pub usedTable : Kind → ℕ → Job → List Entry → List Entry
+usedTable greatest n o rest =
+    empty (o .a) ∷ beyond n (o .a) ∷ aboveLast (o .x) ∷ aboveLast (o .y) ∷ alike (o .x) (o .y) ∷ amongCare (o .care) (o .x) ∷ amongCare (o .care) (o .y) ∷ rest
+usedTable smallest n o rest =
+    empty (o .a) ∷ beyond n (o .a) ∷ aboveLast (o .x) ∷ aboveLast (o .y) ∷ alike (o .x) (o .y) ∷ amongCare (o .care) (o .x) ∷ amongCare (o .care) (o .y) ∷ rest
+usedTable scaledAdd n o rest =
+    empty (o .a) ∷ empty (o .p) ∷ beyond n (o .a) ∷ beyond n (o .p) ∷ shared (o .p) (o .a) ∷ aboveLast (o .y) ∷ amongCare (o .care) (o .y) ∷ rest
+usedTable product n o rest =
+    empty (o .a) ∷ empty (o .b) ∷ empty (o .p) ∷ beyond n (o .a) ∷ beyond n (o .b) ∷ beyond n (o .p) ∷ shared (o .p) (o .a) ∷ shared (o .p) (o .b)
+    ∷ aboveLast (o .y) ∷ amongCare (o .care) (o .y) ∷ rest
+usedTable unknown n o rest = entry 8 true ∷ rest
+
+-- "its place only after the start, and then too that others are 0"
+abbrev pub heldTable : ℕ → Job → List Entry → List Entry
+heldTable n o rest = usedTable (kindOf (o .kind)) n o (entry 8 (not (unusedZero o)) ∷ entry 8 (not (inTable o)) ∷ rest)
+
+-- "a step while none is"
+abbrev pub stepTable : ℕ → Held → List Entry → List Entry
+stepTable n held.Nothing rest = entry 8 true ∷ rest
+stepTable n (held.Holds o) rest = heldTable n o rest
+
+-- every held job, of an image
+abbrev pub jobsTable : ℕ → List Job → List Entry → List Entry
+jobsTable n [] rest = rest
+jobsTable n (o ∷ os) rest = heldTable n o (jobsTable n os rest)
+
+-- ---- the calls' tables
+
+abbrev pub showTable : ResponseBit → Machine → List Entry
+showTable x m = machineTable m (aboveLast x ∷ [])
+
+abbrev pub roundTable : ResponseBit → ResponseBit → Machine → List Entry
+roundTable x f m = machineTable m (pairTable x f [])
+
+abbrev pub answerTable : ResponseBit → ResponseBit → WordSlice → Machine → List Entry
+answerTable x f k m = machineTable m (pairTable x f (entry 11 (otherThan k (shown x m)) ∷ []))
+
+-- "a start while a job is held"
+abbrev pub startTable : Machine → Held → Job → List Entry
+startTable m h o = machineTable m (usedTable (kindOf (o .kind)) (m .width) o (entry 8 (isHeld h) ∷ []))
+
+abbrev pub stepsTable : Machine → Held → List Entry
+stepsTable m h = machineTable m (stepTable (m .width) h [])
+
+-- (house): of a job that is not at its first place
+abbrev pub totalTable : Machine → Held → List Entry
+totalTable m h = machineTable m (stepTable (m .width) h (entry 8 (not (isFirst h)) ∷ []))
 
 abbrev pub writeTable : State → ℕ → List Entry
-writeTable s room = machineTable (s .machine) (entry 8 (badJob (s .machine .width) (s .held)) ∷ entry 10 (ltb room (length (imageOf s))) ∷ [])
+writeTable s room =
+    machineTable (s .machine) (jobsTable (s .machine .width) (heldJobs (s .held)) (entry 10 (ltb room (length (imageOf s))) ∷ []))
 
 -- 9: its "place"
 abbrev pub malformed : Scanned → Entry
@@ -94,10 +169,11 @@ abbrev pub given : Check → ℕ × ℕ
 given Passed = (0, 0)
 given (Refused r) = tells r
 
-abbrev said : Refusal → Bool → Entry
-said r b = record { number = numberOf r; also = alsoAnswers r; holds = b }
-
 -- ---- "given exactly then": each call's refusal is the first condition of its table that holds, and there is none where none does
+
+-- a check and its part of a table, whatever follows both
+record Tabled (c : Check) (table : List Entry → List Entry) : Type 0 where
+  pub before : (d : Check) (es : List Entry) → given d ≡ first es → given (c else d) ≡ first (table es)
 
 machine-first : (b₁ b₂ : Bool) (f : Found) (c : Check) (es : List Entry) → given c ≡ first es
     → given ((refuse Size b₁ else refuse Width b₂ else refuseWord f) else c) ≡ first (entry 1 b₁ ∷ entry 2 b₂ ∷ stray f ∷ es)
@@ -107,74 +183,176 @@ machine-first false true f c es h = refl
 machine-first false false (At k) c es h = refl
 machine-first false false Nothing c es h = h
 
--- 1 to 3, and then what follows
-after-machine : (m : Machine) (c : Check) (es : List Entry) → given c ≡ first es → given (machineCheck m else c) ≡ first (machineTable m es)
+-- 1 to 3
+of-machine : (m : Machine) → Tabled (machineCheck m) (machineTable m)
 unfolding machineCheck
-after-machine m c es h =
-    machine-first (badSize (length (m .words)) (length (m .responses))) (badWidth (m .width)) (lowest (tooWide (m .width)) 0 (m .words)) c es h
+of-machine m =
+    record {
+      before = machine-first (badSize (length (m .words)) (length (m .responses))) (badWidth (m .width)) (lowest (tooWide (m .width)) 0 (m .words));
+    }
 
--- one entry more
-and-then : (r : Refusal) (b : Bool) (c : Check) (es : List Entry) → given c ≡ first es → given (refuse r b else c) ≡ first (said r b ∷ es)
+true-false : {A : Type 0} → true ≡ false → A
+true-false e = let z : _≡_ {A = ℕ} 0 1 = cc in absurd (omega arith)
+
+-- one entry
+link : (k : ℕ) (c : Check) (b : Bool) → (b ≡ true → given c ≡ (k, 0)) → (b ≡ true → (d : Check) → (c else d) ≡ c) → (b ≡ false → c ≡ Passed)
+    → Tabled c (λ es. entry k b ∷ es)
 unfolding first
-and-then r true c es h = refl
-and-then r false c es h = h
+link k c true f g h = record { before = λ d es e. rw (g refl d) (f refl) }
+link k c false f g h = record { before = λ d es e. rw (h refl) e }
 
-last : (r : Refusal) (b : Bool) → given (refuse r b) ≡ first (said r b ∷ [])
+infixr 20 _then_
+-- one after the other
+_then_ : {c d : Check} {s t : List Entry → List Entry} → Tabled c s → Tabled d t → Tabled (c else d) (λ es. s (t es))
+_then_ {c} {d} {s} {t} f g =
+    record { before = λ e es h. ap given (regroup c d e) ∙ f .before (d else e) (t es) (g .before e es h) }
+  where
+    regroup : (b c d : Check) → ((b else c) else d) ≡ (b else c else d)
+    regroup Passed c d = refl
+    regroup (Refused r) c d = refl
+
+-- with nothing after it
+whole : {c : Check} {t : List Entry → List Entry} → Tabled c t → given c ≡ first (t [])
 unfolding first
-last r true = refl
-last r false = refl
+whole {c} f = sym (passed-else c) ∙ f .before Passed [] refl
+  where
+    passed-else : (c : Check) → given (c else Passed) ≡ given c
+    passed-else Passed = refl
+    passed-else (Refused r) = refl
 
--- chains of checks may be put together from either end
-regroup : (c : Check) (r : Refusal) (b : Bool) (d : Check) → given ((c else refuse r b) else d) ≡ given (c else (refuse r b else d))
-regroup Passed r b d = refl
-regroup (Refused w) r b d = refl
+four : (n : ℕ) (p : Panel) → Tabled (refuse PanelTooWide (badPanel n p)) (λ es. entry 4 (badPanel n p) ∷ es)
+four n p = link 4 (refuse PanelTooWide (badPanel n p)) (badPanel n p) (λ e. rw e) (λ e d. rw e) (λ e. rw e)
+
+five : (n : ℕ) (p : Panel) (l : Lines) → Tabled (refuse TwoCodes (badCodes n p l)) (λ es. entry 5 (badCodes n p l) ∷ es)
+five n p l = link 5 (refuse TwoCodes (badCodes n p l)) (badCodes n p l) (λ e. rw e) (λ e d. rw e) (λ e. rw e)
+
+six : (l : Lines) → Tabled (refuse WrongLines (badLines l)) (λ es. entry 6 (badLines l) ∷ es)
+six l = link 6 (refuse WrongLines (badLines l)) (badLines l) (λ e. rw e) (λ e d. rw e) (λ e. rw e)
+
+seven : (n : ℕ) (p : Panel) (l : Lines) → Tabled (refuse NoSuchWord (badAddress n p l)) (λ es. entry 7 (badAddress n p l) ∷ es)
+seven n p l = link 7 (refuse NoSuchWord (badAddress n p l)) (badAddress n p l) (λ e. rw e) (λ e d. rw e) (λ e. rw e)
+
+ten : (b : Bool) → Tabled (refuse NoRoom b) (λ es. entry 10 b ∷ es)
+ten b = link 10 (refuse NoRoom b) b (λ e. rw e) (λ e d. rw e) (λ e. rw e)
+
+eleven : (b : Bool) → Tabled (refuse NotShown b) (λ es. entry 11 b ∷ es)
+eleven b = link 11 (refuse NotShown b) b (λ e. rw e) (λ e d. rw e) (λ e. rw e)
+
+-- ---- 8, leaf by leaf
+
+bit-leaf : (x : ResponseBit) → Tabled (bitCheck x) (λ es. aboveLast x ∷ es)
+bit-leaf x = link 8 (bitCheck x) (leb responseBits (x .0)) (λ e. rw e) (λ e d. rw e) (λ e. rw e)
+
+apart-leaf : (x y : ResponseBit) → Tabled (apartCheck x y) (λ es. alike x y ∷ es)
+apart-leaf x y = link 8 (apartCheck x y) (eqb (x .0) (y .0)) (λ e. rw e) (λ e d. rw e) (λ e. rw e)
+
+care-leaf : (care : ℕ) (x : ResponseBit) → Tabled (careCheck care x) (λ es. amongCare care x ∷ es)
+care-leaf care x = link 8 (careCheck care x) (inCare care x) (λ e. rw e) (λ e d. rw e) (λ e. rw e)
+
+empty-leaf : (s : Span) → Tabled (emptyCheck s) (λ es. empty s ∷ es)
+empty-leaf s = link 8 (emptyCheck s) (eqb (s .width) 0) (λ e. rw e) (λ e d. rw e) (λ e. rw e)
+
+beyond-leaf : (n : ℕ) (s : Span) → Tabled (beyondCheck n s) (λ es. beyond n s ∷ es)
+beyond-leaf n s = link 8 (beyondCheck n s) (ltb n (s .low .0 + s .width)) (λ e. rw e) (λ e d. rw e) (λ e. rw e)
+
+shared-leaf : (p s : Span) → Tabled (overlapCheck p s) (λ es. shared p s ∷ es)
+shared-leaf p s = link 8 (overlapCheck p s) (overlaps p s) (λ e. rw e) (λ e d. rw e) (λ e. rw e)
+
+unused-leaf : (o : Job) → Tabled (unusedCheck o) (λ es. entry 8 (not (unusedZero o)) ∷ es)
+unused-leaf o = link 8 (unusedCheck o) (not (unusedZero o)) (λ e. rw e) (λ e d. rw e) (λ e. rw e)
+
+place-leaf : (o : Job) → Tabled (placeCheck o) (λ es. entry 8 (not (inTable o)) ∷ es)
+place-leaf o = link 8 (placeCheck o) (not (inTable o)) (λ e. rw e) (λ e d. rw e) (λ e. rw e)
+
+free-leaf : (h : Held) → Tabled (freeCheck h) (λ es. entry 8 (isHeld h) ∷ es)
+free-leaf h = link 8 (freeCheck h) (isHeld h) (λ e. rw e) (λ e d. rw e) (λ e. rw e)
+
+first-leaf : (h : Held) → Tabled (firstCheck h) (λ es. entry 8 (not (isFirst h)) ∷ es)
+first-leaf h = link 8 (firstCheck h) (not (isFirst h)) (λ e. rw e) (λ e d. rw e) (λ e. rw e)
+
+of-pair : (x f : ResponseBit) → Tabled (pairCheck x f) (pairTable x f)
+unfolding pairCheck
+of-pair x f = bit-leaf x then bit-leaf f then apart-leaf x f
+
+of-extreme : (n : ℕ) (o : Job) → Tabled (extremeCheck n o) (usedTable greatest n o)
+unfolding extremeCheck
+of-extreme n o =
+    empty-leaf (o .a) then beyond-leaf n (o .a) then bit-leaf (o .x) then bit-leaf (o .y) then apart-leaf (o .x) (o .y)
+    then care-leaf (o .care) (o .x) then care-leaf (o .care) (o .y)
+
+of-scaled-add : (n : ℕ) (o : Job) → Tabled (scaledAddCheck n o) (usedTable scaledAdd n o)
+unfolding scaledAddCheck
+of-scaled-add n o =
+    empty-leaf (o .a) then empty-leaf (o .p) then beyond-leaf n (o .a) then beyond-leaf n (o .p) then shared-leaf (o .p) (o .a)
+    then bit-leaf (o .y) then care-leaf (o .care) (o .y)
+
+of-product : (n : ℕ) (o : Job) → Tabled (productCheck n o) (usedTable product n o)
+unfolding productCheck
+of-product n o =
+    empty-leaf (o .a) then empty-leaf (o .b) then empty-leaf (o .p) then beyond-leaf n (o .a) then beyond-leaf n (o .b) then beyond-leaf n (o .p)
+    then shared-leaf (o .p) (o .a) then shared-leaf (o .p) (o .b) then bit-leaf (o .y) then care-leaf (o .care) (o .y)
+
+of-used : (n : ℕ) (o : Job) → Tabled (usedCheck n o) (usedTable (kindOf (o .kind)) n o)
+unfolding usedCheck
+of-used n o = go (kindOf (o .kind))
+  where
+    go : (k : Kind) → Tabled (usedCheckFor k n o) (usedTable k n o)
+    go greatest = of-extreme n o
+    go smallest = of-extreme n o
+    go scaledAdd = of-scaled-add n o
+    go product = of-product n o
+    go unknown = link 8 (usedCheckFor unknown n o) true (λ e. refl) (λ e d. refl) (λ e. true-false e)
+
+of-held : (n : ℕ) (o : Job) → Tabled (heldCheck n o) (heldTable n o)
+unfolding heldCheck
+of-held n o = of-used n o then unused-leaf o then place-leaf o
+
+of-step : (n : ℕ) (h : Held) → Tabled (stepHeldCheck n h) (stepTable n h)
+of-step n held.Nothing = link 8 (stepHeldCheck n held.Nothing) true (λ e. refl) (λ e d. refl) (λ e. true-false e)
+of-step n (held.Holds o) = of-held n o
+
+of-jobs : (n : ℕ) (os : List Job) → Tabled (jobsCheck n os) (jobsTable n os)
+of-jobs n [] = record { before = λ d es h. h }
+of-jobs n (o ∷ os) = of-held n o then of-jobs n os
+
+-- ---- the calls
 
 pub pulse-given : (m : Machine) (p : Panel) (l : Lines) → given (pulseCheck m p l) ≡ first (pulseTable m p l)
 unfolding pulseCheck
 pulse-given m p l =
-    after-machine m _ _ (and-then PanelTooWide (badPanel (m .width) p) _ _ (and-then TwoCodes (badCodes (m .width) p l) _ _
-    (and-then WrongLines (badLines l) _ _ (last NoSuchWord (badAddress (length (m .words)) p l)))))
-
-passed-else : (c : Check) → given (c else Passed) ≡ given c
-passed-else Passed = refl
-passed-else (Refused r) = refl
+    whole (of-machine m then four (m .width) p then five (m .width) p l then six l then seven (length (m .words)) p l)
 
 pub resolution-given : (m : Machine) → given (machineCheck m) ≡ first (machineTable m [])
-unfolding first
-resolution-given m = sym (passed-else (machineCheck m)) ∙ after-machine m Passed [] refl
+resolution-given m = whole (of-machine m)
 
-pub show-given : (x : ℕ) (m : Machine) → given (showCheck x m) ≡ first (unfitTable (noBit x) m)
-unfolding bitsCheck
-show-given x m = after-machine m _ _ (last Unfit (noBit x))
+pub show-given : (x : ResponseBit) (m : Machine) → given (showCheck x m) ≡ first (showTable x m)
+unfolding showCheck
+show-given x m = whole (of-machine m then bit-leaf x)
 
-pub answer-given : (x f : ℕ) (k : WordSlice) (m : Machine) → given (answerCheck x f k m) ≡ first (answerTable x f k m)
-unfolding answerCheck bitsCheck
-answer-given x f k m =
-    regroup (machineCheck m) Unfit (badBits x f) _
-    ∙ after-machine m _ _ (and-then Unfit (badBits x f) _ _ (last NotShown (otherThan k (shown x m))))
+pub answer-given : (x f : ResponseBit) (k : WordSlice) (m : Machine) → given (answerCheck x f k m) ≡ first (answerTable x f k m)
+unfolding answerCheck
+answer-given x f k m = whole (of-machine m then of-pair x f then eleven (otherThan k (shown x m)))
 
-pub start-given : (m : Machine) (h : Held) (o : Job) → given (startCheck m h o) ≡ first (unfitTable (isHeld h || badUsed (m .width) o) m)
+pub round-given : (x f : ResponseBit) (m : Machine) → given (roundCheck x f m) ≡ first (roundTable x f m)
+unfolding roundCheck
+round-given x f m = whole (of-machine m then of-pair x f)
+
+pub start-given : (m : Machine) (h : Held) (o : Job) → given (startCheck m h o) ≡ first (startTable m h o)
 unfolding startCheck
-start-given m h o = after-machine m _ _ (last Unfit (isHeld h || badUsed (m .width) o))
+start-given m h o = whole (of-machine m then of-used (m .width) o then free-leaf h)
 
-pub step-given : (m : Machine) (h : Held) → given (stepCheck m h) ≡ first (unfitTable (badStep (m .width) h) m)
+pub step-given : (m : Machine) (h : Held) → given (stepCheck m h) ≡ first (stepsTable m h)
 unfolding stepCheck
-step-given m h = after-machine m _ _ (last Unfit (badStep (m .width) h))
+step-given m h = whole (of-machine m then of-step (m .width) h)
 
-twice : (c : Check) (b b′ : Bool) → given ((c else refuse Unfit b) else refuse Unfit b′) ≡ given (c else refuse Unfit (b || b′))
-twice Passed true b′ = refl
-twice Passed false b′ = refl
-twice (Refused r) b b′ = refl
-
-pub total-given : (m : Machine) (h : Held) → given (totalCheck m h) ≡ first (unfitTable (badStep (m .width) h || badTotal h) m)
+pub total-given : (m : Machine) (h : Held) → given (totalCheck m h) ≡ first (totalTable m h)
 unfolding totalCheck stepCheck
-total-given m h =
-    twice (machineCheck m) (badStep (m .width) h) (badTotal h) ∙ after-machine m _ _ (last Unfit (badStep (m .width) h || badTotal h))
+total-given m h = whole ((of-machine m then of-step (m .width) h) then first-leaf h)
 
 pub write-given : (s : State) (room : ℕ) → given (writeCheck s room) ≡ first (writeTable s room)
 unfolding writeCheck
 write-given s room =
-    after-machine (s .machine) _ _ (and-then Unfit (badJob (s .machine .width) (s .held)) _ _ (last NoRoom (ltb room (length (imageOf s)))))
+    whole (of-machine (s .machine) then of-jobs (s .machine .width) (heldJobs (s .held)) then ten (ltb room (length (imageOf s))))
 
 nine-ten : (c : Scanned) (b : Bool) → given (refuseBytes c else refuse NoRoom b) ≡ first (malformed c ∷ entry 10 b ∷ [])
 unfolding first
@@ -185,7 +363,3 @@ nine-ten (Broken at) b = refl
 pub read-given : (bs : List ℕ) (words responses : ℕ) → given (readCheck bs words responses) ≡ first (readTable bs words responses)
 unfolding readCheck
 read-given bs words responses = nine-ten (scanned bs) (ltb words (wordsIn bs) || ltb responses (wordsIn bs))
-
-pub round-given : (x f : ℕ) (m : Machine) → given (roundCheck x f m) ≡ first (unfitTable (badBits x f) m)
-unfolding bitsCheck
-round-given x f m = after-machine m _ _ (last Unfit (badBits x f))

@@ -12,6 +12,7 @@ use Rattle.laws.specs.Bits.{bit, digit}
 use Rattle.machine.specs.declared.Panel.{Panel}
 use Rattle.machine.specs.declared.Lines.{Lines}
 use Rattle.machine.specs.declared.WordSlice.{WordSlice}
+use Rattle.machine.specs.declared.ResponseBit.{ResponseBit}
 use Rattle.machine.specs.declared.Check.the-variants.{Passed}
 use Rattle.machine.specs.Machine.{Machine, responseBits}
 use Rattle.machine.specs.Refusals.{pulseCheck, after}
@@ -37,7 +38,7 @@ use Rattle.ends.proofs.Product.{product-pulses, product-ends}
 use Rattle.rounds.specs.declared.Verdict.{Verdict}
 use Rattle.rounds.specs.declared.Verdict.the-variants.{Done, Faulty}
 use Rattle.rounds.specs.declared.Reply.the-variants as reply
-use Rattle.rounds.specs.Round.{badBits, bitsCheck, shown, showOf, replyOf}
+use Rattle.rounds.specs.Round.{roundCheck, shown, showOf, replyOf}
 use Rattle.rounds.specs.Handout.{responders, responder, response, NotAmong, firstOf, Answers}
 use Rattle.rounds.specs.Round.{Fit}
 use Rattle.rounds.proofs.Handout.{handed-out}
@@ -163,7 +164,7 @@ module _ (m : Machine) (o : Job) (accepted : Accepted m o) (typed : Typed (recor
 -- ---- rounds: show and answer alone
 
 -- after k accepted answers vs, done or faulty, from the machine `before` to the machine `after`
-module _ {x f : ℕ} {before after : Machine} {vs : List Verdict} (answers : Answers x f before vs after) where
+module _ {x f : ResponseBit} {before after : Machine} {vs : List Verdict} (answers : Answers x f before vs after) where
   -- the next shown is the responder with k lower ones, or none where there is none
   pub shown-next : shown x after ≡ firstOf (drop (length vs) (responders x before))
   shown-next = handed-out answers .next
@@ -172,25 +173,25 @@ module _ {x f : ℕ} {before after : Machine} {vs : List Verdict} (answers : Ans
   pub no-more-than-responders : length vs ≤ length (responders x before)
   no-more-than-responders = handed-out answers .enough
 
-  pub lost-mark : (i : ℕ) → i < length vs → bit (response after (responder x before i)) x ≡ 0
+  pub lost-mark : (i : ℕ) → i < length vs → bit (response after (responder x before i)) (x .0) ≡ 0
   lost-mark = handed-out answers .lost-mark
 
   pub responders-left : responders x after ≡ drop (length vs) (responders x before)
   responders-left = handed-out answers .left
 
   -- faulty ones carry F, and done ones have it as before
-  pub faulty-marked : (i : ℕ) → i < length vs → getD vs i Done ≡ Faulty → bit (response after (responder x before i)) f ≡ 1
+  pub faulty-marked : (i : ℕ) → i < length vs → getD vs i Done ≡ Faulty → bit (response after (responder x before i)) (f .0) ≡ 1
   faulty-marked = handed-out answers .faulty-marked
 
   pub done-unmarked : (i : ℕ) → i < length vs → getD vs i Done ≡ Done
-      → bit (response after (responder x before i)) f ≡ bit (response before (responder x before i)) f
+      → bit (response after (responder x before i)) (f .0) ≡ bit (response before (responder x before i)) (f .0)
   done-unmarked = handed-out answers .done-unmarked
 
   -- nothing else changes: no other word's response, no other response bit, no word
   pub other-responses : (j : ℕ) → NotAmong (responders x before) (length vs) j → response after j ≡ response before j
   other-responses = handed-out answers .other-words
 
-  pub other-bits : (j b : ℕ) → b < responseBits → (b ≡ x → ⊥) → (b ≡ f → ⊥) → bit (response after j) b ≡ bit (response before j) b
+  pub other-bits : (j b : ℕ) → b < responseBits → (b ≡ x .0 → ⊥) → (b ≡ f .0 → ⊥) → bit (response after j) b ≡ bit (response before j) b
   other-bits = handed-out answers .other-bits
 
   pub words-unchanged : after .words ≡ before .words
@@ -200,7 +201,7 @@ module _ {x f : ℕ} {before after : Machine} {vs : List Verdict} (answers : Ans
 -- and other calls that leave X and F alone s stands now, `image` is the last stored, vs are the verdicts that are stored, and `book` has the words
 -- shown and the stops
 
-module _ (x f : ℕ) (b : State) (fine : bitsCheck (badBits x f) (b .machine) ≡ Passed) (typed : Typed b) where
+module _ (x f : ResponseBit) (b : State) (fine : roundCheck x f (b .machine) ≡ Passed) (typed : Typed b) where
   -- a word that is shown was a responder in the first image, with exactly as many lower ones as answers are stored
   pub shown-was-next : {s : State} {image : List ℕ} {k : ℕ} {vs : List Verdict} {book : List Entry} → Hosted x f b s image (showing k) vs book
       → Responder x (b .machine) k × (lower x (b .machine) k ≡ length vs)
@@ -229,15 +230,15 @@ module _ (x f : ℕ) (b : State) (fine : bitsCheck (badBits x f) (b .machine) �
     after-all-ends = over x f b fine typed hosted
 
     -- F marks exactly the ones answered faulty, and stored, among them: those answered done and all other words have it as before
-    pub faulty-have-f : (i : ℕ) → i < length vs → getD vs i Done ≡ Faulty → bit (response (s .machine) (responder x (b .machine) i)) f ≡ 1
+    pub faulty-have-f : (i : ℕ) → i < length vs → getD vs i Done ≡ Faulty → bit (response (s .machine) (responder x (b .machine) i)) (f .0) ≡ 1
     faulty-have-f = faulty-has x f b fine typed hosted
 
     pub done-have-f-as-before : (i : ℕ) → i < length vs → getD vs i Done ≡ Done
-        → bit (response (s .machine) (responder x (b .machine) i)) f ≡ bit (response (b .machine) (responder x (b .machine) i)) f
+        → bit (response (s .machine) (responder x (b .machine) i)) (f .0) ≡ bit (response (b .machine) (responder x (b .machine) i)) (f .0)
     done-have-f-as-before = done-has x f b fine typed hosted
 
     pub others-have-f-as-before : (j : ℕ) → NotAmong (responders x (b .machine)) (length vs) j
-        → bit (response (s .machine) j) f ≡ bit (response (b .machine) j) f
+        → bit (response (s .machine) j) (f .0) ≡ bit (response (b .machine) j) (f .0)
     others-have-f-as-before = others-have x f b fine typed hosted
 
   module _ {s : State} {image : List ℕ} {phase : Phase} {vs : List Verdict} {book : List Entry} (hosted : Hosted x f b s image phase vs book) where
@@ -265,18 +266,18 @@ module _ (x f : ℕ) (b : State) (fine : bitsCheck (badBits x f) (b .machine) �
 -- ---- which calls leave X and F alone: pulses whose target has neither, or that raise neither search nor complement; steps of jobs that work on
 -- neither; and every call that lends by & only or lends the panel alone (starts, totals, shows, resolutions, writing, loads)
 
-pub pulse-with-other-target : (x f : ℕ) (m : Machine) (p : Panel) (l : Lines) → pulseCheck m p l ≡ Passed → Fit x f → bit (p .target) x ≡ 0
-    → bit (p .target) f ≡ 0 → Leaves x f m (after m p l)
+pub pulse-with-other-target : (x f : ResponseBit) (m : Machine) (p : Panel) (l : Lines) → pulseCheck m p l ≡ Passed → Fit x f → bit (p .target) (x .0) ≡ 0
+    → bit (p .target) (f .0) ≡ 0 → Leaves x f m (after m p l)
 pulse-with-other-target = target-spares
 
-pub pulse-without-target : (x f : ℕ) (m : Machine) (p : Panel) (l : Lines) → pulseCheck m p l ≡ Passed → l .search ≡ false → l .complement ≡ false
+pub pulse-without-target : (x f : ResponseBit) (m : Machine) (p : Panel) (l : Lines) → pulseCheck m p l ≡ Passed → l .search ≡ false → l .complement ≡ false
     → Leaves x f m (after m p l)
 pulse-without-target = lines-spare
 
-pub step-with-other-bits : (x f : ℕ) → Fit x f → (s : State) (o : Job) → s .held ≡ Holds o → Apart o x → Apart o f → {k : Command} {c : ℕ} {h : Held}
+pub step-with-other-bits : (x f : ResponseBit) → Fit x f → (s : State) (o : Job) → s .held ≡ Holds o → Apart o x → Apart o f → {k : Command} {c : ℕ} {h : Held}
     → stepOf (s .machine) (s .held) ≡ answer.Gave k c h → Leaves x f (s .machine) (afterStep (s .machine) (s .held))
 unfolding stepped
 step-with-other-bits = step-spares
 
-pub calls-that-only-look : (x f : ℕ) (m : Machine) → Leaves x f m m
+pub calls-that-only-look : (x f : ResponseBit) (m : Machine) → Leaves x f m m
 calls-that-only-look = all-left

@@ -8,6 +8,7 @@ use Rattle.laws.specs.Bits.{bit, number, every, under}
 use Rattle.laws.specs.Lists.{all, zip, count}
 use Rattle.machine.specs.declared.Panel.{Panel}
 use Rattle.machine.specs.declared.Lines.{Lines}
+use Rattle.machine.specs.Panel.{panelOf}
 use Rattle.machine.specs.Machine.{Machine, responseBits, bottom, tops, selected}
 use Rattle.machine.specs.Search.{oneCode, satisfied, matches, marked}
 use Rattle.machine.specs.Pulse.{written, sums, added, wordAfter, flipped, responseAfter, counts, countOf, readOf, pulsed}
@@ -19,8 +20,8 @@ use Rattle.job_plans.specs.declared.Held.{Held}
 use Rattle.job_plans.specs.declared.Held.the-variants.{Nothing, Holds}
 use Rattle.jobs.specs.declared.Started.{Started}
 use Rattle.jobs.specs.declared.Started.the-variants as started
-use Rattle.job_plans.specs.Fields.{badExtreme, badScaledAdd, badProduct, badUsed, unusedZero}
-use Rattle.job_plans.specs.Places.{inTable, badHeld, first, next}
+use Rattle.job_plans.specs.Fields.{extremeCheck, scaledAddCheck, productCheck, usedCheck, unusedZero}
+use Rattle.job_plans.specs.Places.{inTable, heldCheck, first, next}
 use Rattle.job_plans.specs.Commands.{command}
 use Rattle.jobs.specs.Calls.{startCheck, startOf, stepCheck, stepOf, afterStep}
 use Rattle.jobs.specs.Runs.{State, stepped, steps, stepsTaken}
@@ -55,8 +56,7 @@ onePulse m p l =
 
 -- COMP, SDR, SC1, SC2, MOR, target
 abbrev panel : ℕ → ℕ → ℕ → ℕ → ℕ → ℕ → Panel
-panel c s a b m t =
-    record { comp = c; sdr = s; sc1 = a; sc2 = b; mor = m; key = 0; care = 0; target = t; address = record { 0 = 0 } }
+panel c s a b m t = panelOf (c ∷ s ∷ a ∷ b ∷ m ∷ 0 ∷ 0 ∷ t ∷ [])
 
 -- search, write, add, multiwrite, multiadd
 abbrev lines : Bool → Bool → Bool → Bool → Bool → Lines
@@ -108,7 +108,7 @@ none = span 0 0
 
 abbrev job : ℕ → ℕ → Span → Span → Span → ℕ → Job
 job kind criterion a b p c =
-    record { kind = kind; key = criterion; care = criterion; x = 0; y = 1; a = a; b = b; p = p; phase = 0; i = 0; j = 0; c = c }
+    record { kind = kind; key = criterion; care = criterion; x = record { 0 = 0 }; y = record { 0 = 1 }; a = a; b = b; p = p; phase = 0; i = 0; j = 0; c = c }
 
 -- a response but for the working bit Y, of which document 01 states nothing
 abbrev butY : ℕ → ℕ
@@ -154,5 +154,5 @@ table =
 -- ---- the statement: what the definitions give is what document 01 states, in every row
 
 pub figures : map (λ (r : Row). r .given) table ≡ map (λ (r : Row). r .stated) table
-unfolding number every all zip count bottom tops selected oneCode satisfied matches marked written sums added wordAfter flipped responseAfter counts countOf readOf pulsed lowest badSize badWidth badPanel badCodes badLines badAddress machineCheck pulseCheck answerOf after badExtreme badScaledAdd badProduct badUsed unusedZero inTable badHeld first next command startCheck startOf stepCheck stepOf afterStep stepped steps stepsTaken
+unfolding number every all zip count bottom tops selected oneCode satisfied matches marked written sums added wordAfter flipped responseAfter counts countOf readOf pulsed lowest badSize badWidth badPanel badCodes badLines badAddress machineCheck pulseCheck answerOf after extremeCheck scaledAddCheck productCheck usedCheck unusedZero inTable heldCheck first next command startCheck startOf stepCheck stepOf afterStep stepped steps stepsTaken
 figures = refl

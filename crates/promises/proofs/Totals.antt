@@ -1,26 +1,26 @@
 -- The console's `total` and `run`: "`total` before any step of a job is the number that `run` then prints."
 use Prim.Native.Nat.{ℕ, zero, suc, _≤_, _<_}
 use mathlib.Core.Path.{_≡_, refl, sym, ap, subst, _∙_}
-use mathlib.Core.Bool.{Bool, true, false}
+use mathlib.Core.Bool.{Bool, true, false, not}
 use mathlib.Core.List.{List}
 use native.Mathlib.Omega.{arith}
 use borrow.Author.Tests.{not-false}
 use Rattle.laws.specs.Bits.{pick}
 use Rattle.machine.specs.declared.Check.{Check}
 use Rattle.machine.specs.declared.Check.the-variants.{Passed, Refused}
-use Rattle.machine.specs.declared.Refusal.the-variants.{Unfit}
+use Rattle.machine.specs.declared.Refusal.{Refusal}
 use Rattle.machine.specs.Machine.{Machine}
 use Rattle.machine.specs.Refusals.{refuse, answerBy}
 use Rattle.machine.proofs.Refusals.{else-passed, not-refused}
 use Rattle.job_plans.specs.declared.Job.{Job}
 use Rattle.job_plans.specs.declared.Held.{Held}
 use Rattle.job_plans.specs.declared.Held.the-variants.{Nothing, Holds}
-use Rattle.job_plans.specs.Places.{first, atFirst, stepCheck}
+use Rattle.job_plans.specs.Places.{first, atFirst, noneHeld, stepCheck}
 use Rattle.job_plans.proofs.Fair.{used-fields}
 use Rattle.job_plans.proofs.Standing.{good, fair-held}
 use Rattle.job_tally.specs.declared.Total.{Total}
 use Rattle.job_tally.specs.declared.Total.the-variants as total
-use Rattle.job_tally.specs.Totals.{pulses, badTotal, totalCheck, totalOf}
+use Rattle.job_tally.specs.Totals.{pulses, firstCheck, totalCheck, totalOf}
 use Rattle.job_tally.proofs.Telling.{total-none}
 use Rattle.jobs.specs.declared.Stepped.{Stepped}
 use Rattle.jobs.specs.declared.Stepped.the-variants as answer
@@ -38,15 +38,15 @@ use Rattle.console_working.specs.Jobs.{oneMore, accepted, most, ran, runTurn, c
 
 -- ---- steps that give their command until the job is over are the accepted ones
 
-nothing-more : (c : Check) (k : ℕ) → oneMore (answerBy c answer.Refused (answer.Refused Unfit)) k ≡ 0
-nothing-more Passed k = refl
-nothing-more (Refused r) k = refl
+nothing-more : (why : Refusal) (c : Check) (k : ℕ) → oneMore (answerBy c answer.Refused (answer.Refused why)) k ≡ 0
+nothing-more why Passed k = refl
+nothing-more why (Refused r) k = refl
 
 all-accepted : (k n : ℕ) (s : State) → ((j : ℕ) → j < k → Gives (steps j s)) → steps k s .held ≡ Nothing → k ≤ n → accepted n s ≡ k
 unfolding steps accepted stepOf
 all-accepted zero zero s g e h = refl
 all-accepted (suc k) zero s g e h = absurd (omega arith)
-all-accepted zero (suc n) s g e h = rw e (nothing-more (stepCheck (s .machine) Nothing) (accepted n (stepped (record { machine = s .machine; held = Nothing }))))
+all-accepted zero (suc n) s g e h = rw e (nothing-more noneHeld (stepCheck (s .machine) Nothing) (accepted n (stepped (record { machine = s .machine; held = Nothing }))))
 all-accepted (suc k) (suc n) s g e h =
     ap (λ (a : Stepped). oneMore a (accepted n (stepped s))) (g 0 (omega arith) .answers)
     ∙ ap suc (all-accepted k n (stepped s) (λ j l. g (suc j) (omega arith)) e (omega arith))
@@ -57,8 +57,8 @@ module _ (m : Machine) (o : Job) (ok : totalCheck m (Holds o) ≡ Passed) where
   asked : (stepCheck m (Holds o) ≡ Passed) × (atFirst o ≡ true)
   unfolding totalCheck
   asked =
-      let e = else-passed (stepCheck m (Holds o)) (refuse Unfit (badTotal (Holds o))) ok in
-      (e .0, not-false _ (not-refused Unfit _ (e .1)))
+      let e = else-passed (stepCheck m (Holds o)) (firstCheck (Holds o)) ok in
+      (e .0, not-false _ (not-refused _ (not (atFirst o)) (e .1)))
 
   stands : o ≡ first o
   stands = is-first (m .width) o (fair-held m o (asked .0)) (asked .1)
