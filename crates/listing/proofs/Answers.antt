@@ -2,12 +2,10 @@
 use Prim.Native.Nat.{ℕ, _<_, _≤_}
 use mathlib.Core.Path.{_≡_, refl}
 use mathlib.Core.List.{List, [], _++_, append-assoc}
-use borrow.Author.Tests.{lt-ltb, le-ltb}
+use borrow.Author.Tests.{lt-ltb, le-ltb, ne-eqb}
 use lib.ListN.{length, getD, replicate}
-use Rattle.machine.specs.declared.WordSlice.{WordSlice}
 use Rattle.machine.specs.declared.Refusal.{Refusal}
-use Rattle.machine.specs.declared.Refusal.the-variants as refusal
-use Rattle.machine.specs.Refusals.{numberOf}
+use Rattle.machine.specs.Refusals.{numberOf, alsoAnswers}
 use Rattle.image.specs.declared.Read.{Read}
 use Rattle.image.specs.Calls.{readOf, wordsRead, responsesRead}
 use Rattle.output.specs.Puts.{Puts}
@@ -16,18 +14,14 @@ use Rattle.listing.specs.Lists.{named, refusalText, alsoText, entryText,
 
 -- ---- a refusal
 
-pub no-more : (why : Refusal) → ((word : WordSlice) → why ≡ refusal.WordTooWide word → ⊥) → ((place : ℕ) → why ≡ refusal.Malformed place → ⊥) → alsoText why ≡ []
-no-more refusal.Size f g = refl
-no-more refusal.Width f g = refl
-no-more (refusal.WordTooWide word) f g = absurd (f word refl)
-no-more refusal.PanelTooWide f g = refl
-no-more refusal.TwoCodes f g = refl
-no-more refusal.WrongLines f g = refl
-no-more refusal.NoSuchWord f g = refl
-no-more refusal.Unfit f g = refl
-no-more (refusal.Malformed place) f g = absurd (g place refl)
-no-more refusal.NoRoom f g = refl
-no-more refusal.NotShown f g = refl
+pub three-more : (why : Refusal) (k also : ℕ) → k ≡ numberOf why → also ≡ alsoAnswers why → k ≡ 3 → alsoText why ≡ named " word " also
+three-more why k also e f h = rw (← e, ← f, h) refl
+
+pub nine-more : (why : Refusal) (k also : ℕ) → k ≡ numberOf why → also ≡ alsoAnswers why → k ≡ 9 → alsoText why ≡ named " at " also
+nine-more why k also e f h = rw (← e, ← f, h) refl
+
+pub no-more : (why : Refusal) (k : ℕ) → k ≡ numberOf why → (k ≡ 3 → ⊥) → (k ≡ 9 → ⊥) → alsoText why ≡ []
+no-more why k e f g = rw (← e, ne-eqb k 3 f, ne-eqb k 9 g) refl
 
 pub refused : {o₁ o₂ : List ℕ} {n₁ n₂ : ℕ} (why : Refusal) (k : ℕ) (also out : List ℕ) → k ≡ numberOf why → alsoText why ≡ also →
     Puts (named "refused " k) 0 out o₁ n₁ → Puts also n₁ o₁ o₂ n₂ → Puts (refusalText why) 0 out o₂ n₂
