@@ -9,8 +9,8 @@ enum-told c = search needs
 enum-told-2 : tie.Need-enum-told-2
 enum-told-2 c = search needs
 
-mask-of-requires : tie.Need-mask-of-requires
-mask-of-requires c κs = (width-pos _ (c .before .before .pre), width-le _ (c .before .before .pre))
+low-bits-requires : tie.Need-low-bits-requires
+low-bits-requires c κs = (width-pos _ (c .before .before .pre), width-le _ (c .before .before .pre))
 
 enum-told-3 : tie.Need-enum-told-3
 enum-told-3 c = search needs
@@ -19,7 +19,7 @@ returns : tie.Need-returns
 returns c = search needs
 
 returns-2 : tie.Need-returns-2
-returns-2 c = rw (c .before .enum-told2 .given .1) (c .mask-of .ensures)
+returns-2 c = rw (c .before .enum-told2 .given .1) (c .low-bits .ensures)
 
 returns-3 : tie.Need-returns-3
 returns-3 c = search needs
@@ -27,4 +27,4 @@ returns-3 c = search needs
 pub mask-of-spec : {M : Type 1} → statement M
 mask-of-spec =
     tie.close
-    (tie.spec enum-told enum-told-2 mask-of-requires enum-told-3 returns returns-2 returns-3)
+    (tie.spec enum-told enum-told-2 low-bits-requires enum-told-3 returns returns-2 returns-3)
