@@ -50,7 +50,7 @@ fn turn(width: u32, panel: Panel, lines: Lines, k: usize, w: u64, r: Response) -
     requires { ⌜ badCodes width panel lines ≡ false ⌝ }
     ensures { λ t. ⌜ (t .word ≡ wordAfter width panel lines k w r) × (t .response ≡ responseAfter width panel lines k w r) × (t .counted ≡ counts width panel lines w r) ⌝ }
 {
-    let selected = search::is_selected(panel.key, panel.care, r);
+    let selected = machine::is_selected(panel.key, panel.care, r);
     let addressed = k == panel.address.0;
     let write = (lines.write & addressed) | (lines.multiwrite & selected);
     let add = (lines.add & addressed) | (lines.multiadd & selected);

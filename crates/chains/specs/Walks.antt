@@ -1,7 +1,6 @@
 -- Names that the inner functions' contracts use for one step of a loop. The public call cites none of them.
 use Prim.Native.Nat.{ℕ, _+_, _*_, _^_}
-use mathlib.Core.Bool.{Bool, true, _||_}
-use lib.Dec.{eqb}
+use mathlib.Core.Bool.{Bool, true}
 use Rattle.laws.specs.Bits.{bit, number, pick}
 use Rattle.machine.specs.declared.Panel.{Panel}
 use Rattle.machine.specs.Machine.{Syllable, isTop, downFrom}
@@ -10,10 +9,6 @@ use Rattle.machine.specs.Pulse.{addend}
 
 abbrev pub syllable : ℕ → ℕ → Syllable
 syllable low width = record { low = low; width = width }
-
--- one response bit of a selection
-abbrev pub agreesAt : ℕ → ℕ → ℕ → ℕ → Bool
-agreesAt key care r i = eqb (bit care i) 0 || eqb (bit r i) (bit key i)
 
 -- a test at bit i: of the syllable that starts there, or true where none does
 unfoldable pub here : (Syllable → Bool) → ℕ → ℕ → ℕ → Bool

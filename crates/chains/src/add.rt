@@ -12,7 +12,7 @@ ghost use Rattle.machine.specs.Pulse.{written, addend, added, change};
 ghost use Rattle.chains.specs.Walks.{syllable, kept, keptAt};
 
 // COMP's bit under a one of MOR, 0 elsewhere.
-pub fn addend_at(panel: Panel, i: u32) -> u64
+fn addend_at(panel: Panel, i: u32) -> u64
     requires { ⌜ i < 64 ⌝ }
     ensures { λ r. ⌜ (r ≡ addend panel i) × (r ≤ 1) ⌝ }
 {
@@ -24,7 +24,7 @@ pub fn addend_at(panel: Panel, i: u32) -> u64
 }
 
 // A syllable's cells from bottom to top: each keeps the sum's low bit and passes its carry on.
-pub fn add_cells(panel: Panel, w: u64, low: u32, width: u32) -> u64
+fn add_cells(panel: Panel, w: u64, low: u32, width: u32) -> u64
     requires { ⌜ low + width ≤ 64 ⌝ }
     ensures { λ r. ⌜ (r ≡ kept panel w (syllable low width)) × (r < 2 ^ width) ⌝ }
 {
@@ -42,7 +42,7 @@ pub fn add_cells(panel: Panel, w: u64, low: u32, width: u32) -> u64
 }
 
 // At bit i: the sum of the syllable that it starts, at its place, or 0 where it starts none.
-pub fn add_at(n: u32, panel: Panel, w: u64, i: u32) -> u64
+fn add_at(n: u32, panel: Panel, w: u64, i: u32) -> u64
     requires { ⌜ i < 64 ⌝ }
     ensures { λ r. ⌜ r ≡ keptAt n panel w i ⌝ }
 {
@@ -54,7 +54,7 @@ pub fn add_at(n: u32, panel: Panel, w: u64, i: u32) -> u64
     }
 }
 
-pub fn add_word(n: u32, panel: Panel, w: u64) -> u64
+fn add_word(n: u32, panel: Panel, w: u64) -> u64
     requires { ⌜ n ≤ 64 ⌝ }
     ensures { λ r. ⌜ r ≡ added n panel w ⌝ }
 {

@@ -19,7 +19,7 @@ pub fn at_place(b: u64, i: u32) -> u64
 }
 
 // One cell of a merge.
-pub fn merged_bit(mask: u64, x: u64, y: u64, i: u32) -> u64
+fn merged_bit(mask: u64, x: u64, y: u64, i: u32) -> u64
     requires { ⌜ i < 64 ⌝ }
     ensures { λ r. ⌜ (r ≡ under mask (bit x) (bit y) i) × (r ≤ 1) ⌝ }
 {

@@ -1,46 +1,24 @@
-// Search, cell by cell: selection, the codes, the statuses from top bit to bottom, what the bottom wants.
+// Search, cell by cell: the codes, the statuses from top bit to bottom, what the bottom wants.
 use crate::bits::bit_of;
 use machine::Code;
 use machine::Panel;
-use machine::RESPONSE_BITS;
 use machine::Response;
 use machine::Status;
+use machine::is_selected;
 ghost use mathlib.Core.Path.{_≡_};
 ghost use mathlib.Core.Bool.{_&&_, _||_, false};
 ghost use lib.Dec.{eqb};
 ghost use Prim.Native.Nat.{suc, _+_, _≤_, _<_};
 ghost use Rattle.laws.specs.Bits.{bit, every, pick};
 ghost use Rattle.laws.specs.Lists.{all};
-ghost use Rattle.machine.specs.Machine.{isTop, bottom, downFrom, syllables, selected};
+ghost use Rattle.machine.specs.Machine.{isTop, bottom, downFrom, syllables};
 ghost use Rattle.machine.specs.Search.{codeAt, eachCode, orExact, orLarger, orSmaller, oneCode};
 ghost use Rattle.machine.specs.Cells.{cell, statusOf, wants, accepted, cellsMatch};
-ghost use Rattle.chains.specs.Walks.{syllable, agreesAt, here};
-
-// ---- selection
-
-// One response bit: outside care, or equal to the key's.
-pub fn agrees_at(key: Response, care: Response, r: Response, i: u32) -> bool
-    requires { ⌜ i < 64 ⌝ }
-    ensures { λ s. ⌜ s ≡ agreesAt key care r i ⌝ }
-{
-    (bit_of(care as u64, i) == 0) | (bit_of(r as u64, i) == bit_of(key as u64, i))
-}
-
-pub fn is_selected(key: Response, care: Response, r: Response) -> bool
-    ensures { λ s. ⌜ s ≡ selected key care r ⌝ }
-{
-    let mut all_agree = true;
-    let mut i: u32 = 0;
-    while i < RESPONSE_BITS {
-        all_agree = agrees_at(key, care, r, i) & all_agree;
-        i += 1;
-    }
-    all_agree
-}
+ghost use Rattle.chains.specs.Walks.{syllable, here};
 
 // ---- the syllables
 
-pub fn is_top(n: u32, sdr: u64, i: u32) -> bool
+pub(crate) fn is_top(n: u32, sdr: u64, i: u32) -> bool
     requires { ⌜ i < 64 ⌝ }
     ensures { λ r. ⌜ r ≡ isTop n sdr i ⌝ }
 {
@@ -48,7 +26,7 @@ pub fn is_top(n: u32, sdr: u64, i: u32) -> bool
 }
 
 // The lowest bit of the syllable whose top bit is bit i.
-pub fn bottom_of(sdr: u64, i: u32) -> u32
+pub(crate) fn bottom_of(sdr: u64, i: u32) -> u32
     requires { ⌜ i < 64 ⌝ }
     ensures { λ r. ⌜ (r ≡ bottom sdr i) × (r ≤ i) ⌝ }
 {
@@ -64,7 +42,7 @@ pub fn bottom_of(sdr: u64, i: u32) -> u32
 
 // ---- codes
 
-pub fn code_at(panel: Panel, i: u32) -> Code
+fn code_at(panel: Panel, i: u32) -> Code
     requires { ⌜ i < 64 ⌝ }
     ensures { λ r. ⌜ r ≡ codeAt panel i ⌝ }
 {
@@ -85,7 +63,7 @@ pub fn code_at(panel: Panel, i: u32) -> Code
     }
 }
 
-pub fn or_exact(code: Code) -> bool
+fn or_exact(code: Code) -> bool
     ensures { λ r. ⌜ r ≡ orExact code ⌝ }
 {
     match code {
@@ -96,7 +74,7 @@ pub fn or_exact(code: Code) -> bool
     }
 }
 
-pub fn or_larger(code: Code) -> bool
+fn or_larger(code: Code) -> bool
     ensures { λ r. ⌜ r ≡ orLarger code ⌝ }
 {
     match code {
@@ -107,7 +85,7 @@ pub fn or_larger(code: Code) -> bool
     }
 }
 
-pub fn or_smaller(code: Code) -> bool
+fn or_smaller(code: Code) -> bool
     ensures { λ r. ⌜ r ≡ orSmaller code ⌝ }
 {
     match code {
@@ -119,7 +97,7 @@ pub fn or_smaller(code: Code) -> bool
 }
 
 // Whether the bits of a syllable that are cared for carry one code.
-pub fn has_one_code(panel: Panel, low: u32, width: u32) -> bool
+fn has_one_code(panel: Panel, low: u32, width: u32) -> bool
     requires { ⌜ low + width ≤ 64 ⌝ }
     ensures { λ r. ⌜ r ≡ oneCode panel (syllable low width) ⌝ }
 {
@@ -138,7 +116,7 @@ pub fn has_one_code(panel: Panel, low: u32, width: u32) -> bool
 }
 
 // At bit i: the syllable that it starts, or true where it starts none.
-pub fn one_code_at(n: u32, panel: Panel, i: u32) -> bool
+fn one_code_at(n: u32, panel: Panel, i: u32) -> bool
     requires { ⌜ i < 64 ⌝ }
     ensures { λ r. ⌜ r ≡ here (oneCode panel) n (panel .sdr) i ⌝ }
 {
@@ -166,7 +144,7 @@ pub fn all_one_code(n: u32, panel: Panel) -> bool
 // ---- the cells
 
 // Two bits where the status is still equal: what a one over a zero settles, and a zero over a one.
-pub fn settle(w: u64, c: u64, more: Status, less: Status) -> Status
+fn settle(w: u64, c: u64, more: Status, less: Status) -> Status
     ensures { λ r. ⌜ r ≡ pick (eqb w 0) (pick (eqb c 0) Status.Equal less) (pick (eqb c 0) more Status.Equal) ⌝ }
 {
     if w == 0 {
@@ -176,7 +154,7 @@ pub fn settle(w: u64, c: u64, more: Status, less: Status) -> Status
     }
 }
 
-pub fn settle_by(code: Code, w: u64, c: u64) -> Status
+fn settle_by(code: Code, w: u64, c: u64) -> Status
     ensures { λ r. ⌜ r ≡ cell code w c Status.Equal ⌝ }
 {
     match code {
@@ -188,7 +166,7 @@ pub fn settle_by(code: Code, w: u64, c: u64) -> Status
 }
 
 // One cell: a settled status stays.
-pub fn pass_on(code: Code, w: u64, c: u64, above: Status) -> Status
+fn pass_on(code: Code, w: u64, c: u64, above: Status) -> Status
     ensures { λ r. ⌜ r ≡ cell code w c above ⌝ }
 {
     match above {
@@ -199,7 +177,7 @@ pub fn pass_on(code: Code, w: u64, c: u64, above: Status) -> Status
 }
 
 // The status at the bottom of a syllable, passed on from its top bit.
-pub fn status_of(panel: Panel, w: u64, low: u32, width: u32) -> Status
+fn status_of(panel: Panel, w: u64, low: u32, width: u32) -> Status
     requires { ⌜ low + width ≤ 64 ⌝ }
     ensures { λ r. ⌜ r ≡ statusOf panel w (syllable low width) ⌝ }
 {
@@ -218,7 +196,7 @@ pub fn status_of(panel: Panel, w: u64, low: u32, width: u32) -> Status
     status
 }
 
-pub fn is_wanted(code: Code, status: Status) -> bool
+fn is_wanted(code: Code, status: Status) -> bool
     ensures { λ r. ⌜ r ≡ wants code status ⌝ }
 {
     match status {
@@ -239,7 +217,7 @@ pub fn is_wanted(code: Code, status: Status) -> bool
 }
 
 // Whether every cell of a syllable is content with the status at its bottom.
-pub fn is_accepted(panel: Panel, w: u64, low: u32, width: u32) -> bool
+fn is_accepted(panel: Panel, w: u64, low: u32, width: u32) -> bool
     requires { ⌜ low + width ≤ 64 ⌝ }
     ensures { λ r. ⌜ r ≡ accepted panel w (syllable low width) ⌝ }
 {
@@ -254,7 +232,7 @@ pub fn is_accepted(panel: Panel, w: u64, low: u32, width: u32) -> bool
 }
 
 // At bit i: the syllable that it starts, or true where it starts none.
-pub fn accepted_at(n: u32, panel: Panel, w: u64, i: u32) -> bool
+fn accepted_at(n: u32, panel: Panel, w: u64, i: u32) -> bool
     requires { ⌜ i < 64 ⌝ }
     ensures { λ r. ⌜ r ≡ here (accepted panel w) n (panel .sdr) i ⌝ }
 {
@@ -266,7 +244,7 @@ pub fn accepted_at(n: u32, panel: Panel, w: u64, i: u32) -> bool
     }
 }
 
-pub fn all_accepted(n: u32, panel: Panel, w: u64) -> bool
+fn all_accepted(n: u32, panel: Panel, w: u64) -> bool
     requires { ⌜ n ≤ 64 ⌝ }
     ensures { λ r. ⌜ r ≡ all (accepted panel w) (syllables n (panel .sdr)) ⌝ }
 {

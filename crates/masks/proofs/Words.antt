@@ -1,10 +1,10 @@
 -- What the small word operations compute.
-use Prim.Native.Nat.{ℕ, _+_, _-_, _*_, _/_, _%_, _^_, _≤_, _<_}
+use Prim.Native.Nat.{ℕ, _+_, _-_, _*_, _%_, _^_, _≤_, _<_}
 use mathlib.Core.Path.{_≡_, ap, ap₂, _∙_}
 use native.Mathlib.Nat.{mod-eq-of-lt}
 use native.Mathlib.Omega.{arith}
 use lib.Bits.{bitAnd, bitOr, bitXor, and-mask}
-use lib.Pow.{pow-pos, pow-lt, pow-mono, ones-split, ones-lt, high}
+use lib.Pow.{pow-pos, pow-lt, pow-mono}
 use Rattle.machine.specs.declared.Panel.{Panel}
 use Rattle.fields.specs.Fields.{fields, addIn, aboveIn}
 use Rattle.fields.specs.Tops.{topsOf, Topped}
@@ -12,14 +12,6 @@ use Rattle.fields.proofs.Shape.{topped}
 use Rattle.fields.proofs.Sums.{word-add}
 use Rattle.fields.proofs.Above.{wide, word-gt}
 use Rattle.masks.specs.Plan.{Fit}
-
--- all ones, shifted down
-pub mask-is : (n : ℕ) → n ≤ 64 → (2 ^ 64 - 1) / 2 ^ (64 - n) ≡ 2 ^ n - 1
-mask-is n h =
-    let e : 64 ≡ n + (64 - n) = omega arith in
-    ap (λ (m : ℕ). (2 ^ m - 1) / 2 ^ (64 - n)) e
-    ∙ ap (λ (x : ℕ). x / 2 ^ (64 - n)) (ones-split n (64 - n))
-    ∙ high (2 ^ n - 1) (64 - n) (ones-lt (64 - n))
 
 -- one, shifted up to bit n-1
 pub top-is : (n : ℕ) → 0 < n → n ≤ 64 → 1 * 2 ^ (n - 1) % 2 ^ 64 ≡ 2 ^ (n - 1)

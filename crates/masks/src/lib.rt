@@ -5,20 +5,12 @@ use sweeps::Changes;
 use sweeps::Masks;
 use sweeps::Tags;
 ghost use mathlib.Core.Path.{_≡_};
-ghost use Prim.Native.Nat.{_-_, _^_, _≤_, _<_};
+ghost use Prim.Native.Nat.{_^_, _≤_, _<_};
 ghost use Rattle.fields.specs.Fields.{fields, addIn, aboveIn};
 ghost use Rattle.fields.specs.Tops.{topsOf, Topped};
 ghost use Rattle.masks.specs.Plan.{Fit, masksOf, tagsOf, changesOf};
 
 // ---- whole words, all syllables at once
-
-// The bits of a word.
-pub fn mask_of(width: u32) -> u64
-    requires { ⌜ (0 < width) × (width ≤ 64) ⌝ }
-    ensures { λ r. ⌜ r ≡ 2 ^ width - 1 ⌝ }
-{
-    u64::MAX >> (64 - width)
-}
 
 // The top bit of each syllable: "Bit N-1 always starts a syllable (house)."
 pub fn tops_of(width: u32, sdr: u64) -> u64
@@ -29,12 +21,12 @@ pub fn tops_of(width: u32, sdr: u64) -> u64
 }
 
 // Each syllable of w plus that of a, modulo 2 to its width.
-pub fn add_word(width: u32, t: u64, w: u64, a: u64) -> u64
+fn add_word(width: u32, t: u64, w: u64, a: u64) -> u64
     requires { ⌜ (0 < width) × (width ≤ 64) ⌝ }
     ensures { λ r. ⌜ r ≡ addIn (fields width t) w a 0 ⌝ }
 {
     let low = std::num::wrapping_add_u64(w & !t, a & !t);
-    (low ^ ((w ^ a) & t)) & mask_of(width)
+    (low ^ ((w ^ a) & t)) & machine::low_bits(width)
 }
 
 // A one at the top of each syllable that is not 0.
@@ -43,7 +35,7 @@ pub fn filled(width: u32, t: u64, q: u64) -> u64
     requires { ⌜ q < 2 ^ width ⌝ }
     ensures { λ r. ⌜ r ≡ aboveIn (fields width t) q 0 0 ⌝ }
 {
-    let u = mask_of(width);
+    let u = machine::low_bits(width);
     let low = std::num::wrapping_add_u64(q & !t, u & !t);
     ((q & u) | ((q | u) & low)) & t
 }
@@ -65,7 +57,7 @@ pub fn make_masks(width: u32, panel: Panel) -> Masks
     ensures { λ r. ⌜ r ≡ masksOf width panel ⌝ }
 {
     let t = tops_of(width, panel.sdr);
-    let mask = mask_of(width);
+    let mask = machine::low_bits(width);
     let care = panel.sc1 | panel.sc2;
     let smaller = panel.sc1 & panel.sc2;
     let exact = panel.sc2 ^ smaller;

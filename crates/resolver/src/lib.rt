@@ -6,6 +6,7 @@ use machine::Found;
 use machine::Refusal;
 use machine::Response;
 use machine::WordSlice;
+use machine::is_selected;
 ghost use mathlib.Core.Path.{_≡_};
 ghost use Prim.Native.Nat.{_+_, _≤_};
 ghost use lib.ListN.{length};
@@ -19,13 +20,6 @@ pub enum Resolved {
     At(WordSlice),
     Nothing,
     Refused(Refusal),
-}
-
-// The definition asks bit by bit; the code asks all bits at once.
-pub fn is_selected(response: Response, key: Response, care: Response) -> bool
-    ensures { λ b. ⌜ b ≡ selected key care response ⌝ }
-{
-    (response & care) == (key & care)
 }
 
 // What one word answers by itself.
@@ -56,7 +50,7 @@ pub fn lowest_selected(responses: &[Response], key: Response, care: Response) ->
     let mut found = Found::Nothing;
     let mut i: usize = 0;
     while i < responses.len() {
-        let here = one_word(is_selected(responses[i], key, care), i);
+        let here = one_word(is_selected(key, care, responses[i]), i);
         found = merge(found, here);
         i += 1;
     }
@@ -73,7 +67,7 @@ fn tree(responses: &[Response], key: Response, care: Response, base: usize) -> F
         return Found::Nothing;
     }
     if n == 1 {
-        return one_word(is_selected(responses[0], key, care), base);
+        return one_word(is_selected(key, care, responses[0]), base);
     }
     let half = n / 2;
     let lower = tree(&responses[..half], key, care, base);

@@ -6,13 +6,12 @@ use mathlib.Core.List.{List, [], _∷_, _++_, append-assoc}
 use mathlib.Core.Bool.{Bool, true, false}
 use native.Mathlib.Numerals.{add-one}
 use native.Mathlib.Omega.{arith}
-use lib.Bits.{bitOr}
-use lib.ListN.{length, take, drop, set, getD, length-append, length-take, length-drop, take-append-drop, drop-of-length-le}
+use lib.ListN.{length, take, drop, set, getD, length-append, length-take, length-drop, take-append-drop}
 use lib.Seq.{take-at, drop-at, take-add, drop-drop, getD-drop, drop-cons, set-split, length-take-le}
 use mir.Val.{boolByte}
 use Rattle.laws.specs.Bits.{digit}
 use Rattle.laws.specs.Lists.{count}
-use Rattle.sweeps.specs.Along.{along, each, many, union}
+use Rattle.sweeps.specs.Along.{along, each, many}
 
 -- ---- along and count, split at a place that both lists have
 
@@ -222,11 +221,3 @@ pub many-is : (h : ℕ → Bool) (ys : List ℕ) → many h ys ≡ count (λ x y
 unfolding many count
 many-is h [] = refl
 many-is h (y ∷ ys) = ap (λ (n : ℕ). digit (h y) + n) (many-is h ys)
-
-pub union-next : (a : ℕ) (ys : List ℕ) (i : ℕ) → i < length ys → union (bitOr a (getD ys i 0)) (drop (i + 1) ys) ≡ union a (drop i ys)
-unfolding union
-union-next a ys i h = rw (add-one i, drop-cons ys i 0)
-
-pub union-end : (a : ℕ) (ys : List ℕ) (i : ℕ) → length ys ≤ i → union a (drop i ys) ≡ a
-unfolding union
-union-end a ys i h = rw (drop-of-length-le ys h)

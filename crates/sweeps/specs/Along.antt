@@ -2,7 +2,6 @@
 use Prim.Native.Nat.{ℕ, zero, _+_}
 use mathlib.Core.Bool.{Bool}
 use mathlib.Core.List.{List, [], _∷_}
-use lib.Bits.{bitOr}
 use Rattle.laws.specs.Bits.{digit}
 
 -- each y that has an x beside it becomes f x y; the rest stays
@@ -20,8 +19,3 @@ each f (y ∷ ys) = f y ∷ each f ys
 unfoldable pub many : (ℕ → Bool) → List ℕ → ℕ
 many h [] = zero
 many h (y ∷ ys) = digit (h y) + many h ys
-
--- the bits that stand in a or in any of the list
-unfoldable pub union : ℕ → List ℕ → ℕ
-union a [] = a
-union a (y ∷ ys) = union (bitOr a y) ys

@@ -9,7 +9,6 @@ ghost use Prim.Native.Nat.{ℕ, _+_, _-_, _≤_, _<_, min};
 ghost use lib.ListN.{length, getD};
 ghost use Rattle.laws.specs.Lists.{count};
 ghost use Rattle.sweeps.specs.Along.{along, each, many};
-ghost use Rattle.sweeps.specs.Along as lists;
 ghost use Rattle.sweeps.specs.Rules.{flag, chosen, hit, mark, found, answer, choice, gated, changed, takes, flipped};
 use machine::Response;
 use word::choice_of;
@@ -259,17 +258,4 @@ pub fn search_change(
         i = e;
     }
     n
-}
-
-// The bits that any word has.
-pub fn union(words: &[u64]) -> u64
-    ensures { λ r. ⌜ r ≡ lists.union 0 (now (words .entry)) ⌝ }
-{
-    let mut all: u64 = 0;
-    let mut i: usize = 0;
-    while i < words.len() {
-        all = all | words[i];
-        i += 1;
-    }
-    all
 }

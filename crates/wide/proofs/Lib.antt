@@ -1,5 +1,5 @@
 -- what ties the word-wide machine to the machine's definitions
-pub mod Checks
+pub mod Accepted
 pub mod Lists
 pub mod Swept
 pub mod Answers

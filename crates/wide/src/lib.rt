@@ -6,10 +6,10 @@ ghost use Prim.Native.Nat.{_-_, _^_, _≤_, _<_};
 ghost use lib.ListN.{length, getD};
 ghost use Rattle.laws.specs.Bits.{pick};
 ghost use Rattle.laws.specs.Lists.{zip, count};
+ghost use Rattle.machine.specs.declared.Check.the-variants as check;
 ghost use Rattle.machine.specs.Machine.{machine};
 ghost use Rattle.machine.specs.Pulse.{counts, wordAfter, responseAfter, countOf, pulsed};
-ghost use Rattle.machine.specs.Resolution.{lowest};
-ghost use Rattle.machine.specs.Refusals.{tooWide, badCodes, refuseWord, machineCheck, pulseCheck, answerOf, after};
+ghost use Rattle.machine.specs.Refusals.{badCodes, pulseCheck, answerOf, after};
 ghost use Rattle.masks.specs.Plan.{Fit};
 ghost use Rattle.wide.specs.Accepted.{Accepted, restCheck, multiAfter};
 use machine::Answer;
@@ -25,34 +25,6 @@ use masks::make_tags;
 use masks::tops_of;
 
 // ---- the checks, 1 to 7
-
-// 3: the OR of all words first, and the scan for the lowest only if that is too wide.
-fn check_words(width: u32, words: &[u64]) -> Check
-    ensures { λ r. ⌜ r ≡ refuseWord (lowest (tooWide width) 0 (now (words .entry))) ⌝ }
-{
-    if width < 64 {
-        if machine::too_wide(width, sweeps::union(words)) {
-            machine::refuse_word(machine::first_too_wide(width, words))
-        } else {
-            Check::Passed
-        }
-    } else {
-        Check::Passed
-    }
-}
-
-// 1 to 3.
-fn check_machine(words: &[u64], responses: &[Response], width: u32) -> Check
-    ensures { λ r. ⌜ r ≡ machineCheck (machine width (now (words .entry)) (now (responses .entry))) ⌝ }
-{
-    if machine::bad_size(words.len(), responses.len()) {
-        return Check::Refused(Refusal::Size);
-    }
-    if machine::bad_width(width) {
-        return Check::Refused(Refusal::Width);
-    }
-    check_words(width, words)
-}
 
 // 5: a syllable in which SC1, SC2 and their difference all have a one.
 fn bad_codes(width: u32, panel: Panel, lines: Lines) -> bool
@@ -89,7 +61,7 @@ fn check_rest(words: usize, width: u32, panel: Panel, lines: Lines) -> Check
 fn check(words: &[u64], responses: &[Response], width: u32, panel: Panel, lines: Lines) -> Check
     ensures { λ r. ⌜ r ≡ pulseCheck (machine width (now (words .entry)) (now (responses .entry))) panel lines ⌝ }
 {
-    let first = check_machine(words, responses, width);
+    let first = machine::check_machine(words, responses, width);
     match first {
         Check::Refused(why) => Check::Refused(why),
         Check::Passed => check_rest(words.len(), width, panel, lines),
@@ -199,15 +171,16 @@ fn new_at(width: u32, panel: Panel, lines: Lines, w: u64, r: Response) -> u64
     )
 }
 
-// The addressed word is worked out before the sweep and stored after it: "All results are worked out from the machine before the pulse."
-fn run(
+// The pulse where nothing is refused: a job's step has judged the machine and its command by then. The addressed word is worked out before the
+// sweep and stored after it: "All results are worked out from the machine before the pulse."
+pub fn give(
+    words: &mut [u64],
+    responses: &mut [Response],
     width: u32,
     panel: Panel,
     lines: Lines,
-    words: &mut [u64],
-    responses: &mut [Response],
 ) -> usize
-    requires { ⌜ Accepted width panel lines (now words) (now responses) ⌝ }
+    requires { ⌜ pulseCheck (machine width (now words) (now responses)) panel lines ≡ check.Passed ⌝ }
     ensures { λ n. ⌜ n ≡ countOf (machine width (now (words .entry)) (now (responses .entry))) panel lines ⌝ }
     ensures { λ n. ⌜ now (words .exit) ≡ pulsed (machine width (now (words .entry)) (now (responses .entry))) panel lines .words ⌝ }
     ensures { λ n. ⌜ now (responses .exit) ≡ pulsed (machine width (now (words .entry)) (now (responses .entry))) panel lines .responses ⌝ }
@@ -248,7 +221,7 @@ pub fn pulse(
     match checked {
         Check::Passed => {
             let read = read_word(panel, lines, words);
-            let count = run(width, panel, lines, words, responses);
+            let count = give(words, responses, width, panel, lines);
             Answer::Done { count, read }
         }
         Check::Refused(why) => Answer::Refused(why),

@@ -18,7 +18,7 @@ returns : tie.Need-returns
 unfolding masksOf
 returns c =
     let m = c .before .before .before .before .before .before .before .before in
-    rw (c .before .before .filled .ensures, c .before .before .before .add-word .ensures, m .mask-of .ensures, m .before .tops-of .ensures) refl
+    rw (c .before .before .filled .ensures, c .before .before .before .add-word .ensures, m .low-bits .ensures, m .before .tops-of .ensures) refl
 
 pub make-masks-spec : {M : Type 1} → statement M
 make-masks-spec =

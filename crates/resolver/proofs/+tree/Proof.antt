@@ -12,7 +12,7 @@ use Rattle.resolver.proofs.Merging.{no-word, one-word, two-halves}
 use Rattle.resolver.proofs.tree.Reads as tree
 use Rattle.resolver.proofs.tree.Kinds as tree-kinds
 use Rattle.resolver.proofs.+tree.Lts-tree as tree-lts
-use Rattle.resolver.proofs.is_selected.Reads as is-selected-reads
+use Rattle.machine.proofs.is_selected.Reads as is-selected-reads
 use Rattle.resolver.proofs.merge.Reads as merge-reads
 use Rattle.resolver.proofs.one_word.Reads as one-word-reads
 use Rattle.resolver.proofs.+tree.{statement}

@@ -2,7 +2,7 @@
 use lib.Bits.{xor-lt}
 use Rattle.machine.specs.Refusals.{badCodes}
 use Rattle.masks.proofs.Words.{fit-tops}
-use Rattle.wide.proofs.Checks.{two-codes}
+use Rattle.wide.proofs.Accepted.{two-codes}
 use borrow.Author.Needs.{needs}
 use Rattle.wide.proofs.bad_codes.Statement.{statement}
 use Rattle.wide.proofs.bad_codes.Tie as tie

@@ -1,6 +1,6 @@
 -- 1 to 3, and then the rest.
 use Rattle.machine.specs.Machine.{machine}
-use Rattle.wide.proofs.Checks.{machine-passed, stopped, went-on}
+use Rattle.wide.proofs.Accepted.{machine-width, stopped, went-on}
 use mathlib.Core.Path.{sym, _∙_}
 use borrow.Author.Needs.{needs}
 use Rattle.wide.proofs.check.Statement.{statement}
@@ -9,8 +9,7 @@ use Rattle.wide.proofs.check.Tie as tie
 check-rest-requires : tie.Need-check-rest-requires
 check-rest-requires c κs =
     let s = c .before .before .before .before .before in
-    let m = machine-passed (s .args .width) (s .args .words .now) (s .args .responses .now) (sym (c .before .before .check-machine .ensures) ∙ c .enum-told .given .1) in
-    (m .1, m .2)
+    machine-width (machine (s .args .width) (s .args .words .now) (s .args .responses .now)) (sym (c .before .before .check-machine .ensures) ∙ c .enum-told .given .1)
 
 returns : tie.Need-returns
 returns c =

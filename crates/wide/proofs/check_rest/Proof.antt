@@ -2,7 +2,7 @@
 use mathlib.Core.Path.{sym, _∙_}
 use Rattle.machine.specs.declared.Refusal.the-variants.{PanelTooWide, TwoCodes}
 use Rattle.machine.proofs.Refusals.{refused, onward}
-use Rattle.wide.proofs.Checks.{fit}
+use Rattle.wide.proofs.Accepted.{fit}
 use borrow.Author.Needs.{needs}
 use Rattle.wide.proofs.check_rest.Statement.{statement}
 use Rattle.wide.proofs.check_rest.Tie as tie
