@@ -23,8 +23,8 @@ use Rattle.machine.specs.declared.Panel.{Panel}
 use Rattle.machine.specs.declared.Lines.{Lines}
 use Rattle.machine.specs.declared.Code.{Code}
 use Rattle.machine.specs.declared.Check.the-variants as check
-use Rattle.machine.specs.declared.Answer as machine-answer
-use Rattle.machine.specs.Machine.{machine, responseBits, Syllable, syllables}
+use Rattle.machine.specs.declared.Answer as base-answer
+use Rattle.machine.specs.Machine.{Machine, machine, responseBits, Syllable, syllables}
 use Rattle.machine.specs.Search.{orExact, oneCode, matches}
 use Rattle.machine.specs.Panel.{panelOf}
 use Rattle.machine.specs.Refusals as base
@@ -130,3 +130,72 @@ module _ (a : Array) (r : Registers) (accepted : callCheck a r ≡ Passed) (d : 
       as-digit (digit-at (getD (after a r (Search d k Agree set Replace) .selectors) j 0) (place set))
       ∙ ap digit (exact-latch a r accepted d k Agree set Replace (exactPanel a r d k target) refl refl refl refl j (getD responses j 0) h x)
       ∙ sym (pulses.search-marks (machine (a .width) (a .ones) responses) (exactPanel a r d k target) searchLine exact-accepted refl j i h l ∙ rw t)
+
+-- ---- the calls
+
+-- what a call of the array was given: the array lent, the registers, the operation; and what a pulse was: the machine, the panel, the lines
+abbrev pub lent : (κs : Lfts 3) → ArgsD plain.signature κs → Array
+lent κs x = array (x .1 .1 .1 .0) (now (x .0)) (now (x .1 .0)) (now (x .1 .1 .0))
+
+abbrev pub held : (κs : Lfts 3) → ArgsD plain.signature κs → Registers
+held κs x = x .1 .1 .1 .1 .0
+
+abbrev pub asked : (κs : Lfts 3) → ArgsD plain.signature κs → Operation
+asked κs x = x .1 .1 .1 .1 .1 .0
+
+abbrev pub machineOf : (κs : Lfts 2) → ArgsD plain-pulse.signature κs → Machine
+machineOf κs y = machine (y .1 .1 .0) (now (y .0)) (now (y .1 .0))
+
+abbrev pub panelGiven : (κs : Lfts 2) → ArgsD plain-pulse.signature κs → Panel
+panelGiven κs y = y .1 .1 .1 .0
+
+abbrev pub raised : (κs : Lfts 2) → ArgsD plain-pulse.signature κs → Lines
+raised κs y = y .1 .1 .1 .1 .0
+
+-- the pulse was accepted, and in every word without X the selector bit that the search left is each target bit that the pulse left
+abbrev pub SameBits : Array → Latches → ℕ → List ℕ → base-answer.Answer → List ℕ → Type 0
+SameBits a set target selectors u responses =
+    (base.told u .refusal ≡ 0)
+    × ((j i : ℕ) → j < length (a .ones) → i < responseBits → bit target i ≡ 1 → NoX (a .width) (wordAt a j)
+    → bit (getD selectors j 0) (place set) ≡ bit (getD responses j 0) i)
+
+done : (m : Machine) (p : Panel) (l : Lines) → pulseCheck m p l ≡ check.Passed → base.told (base.answerOf m p l) .refusal ≡ 0
+unfolding base.answerOf
+done m p l h = rw h
+
+module _ (a : Array) (r : Registers) (d : Source) (k : Mask) (set : Latches) (target : ℕ) (responses : List ℕ) where
+  same-bits : (o : Operation) → o ≡ Search d k Agree set Replace → (t : Answer) → t ≡ answerOf a r o → told t .refusal ≡ 0
+      → (selectors : List ℕ) → selectors ≡ after a r o .selectors → length responses ≡ length (a .ones)
+      → (m : Machine) → m ≡ machine (a .width) (a .ones) responses → (p : Panel) → p ≡ exactPanel a r d k target → (l : Lines) → l ≡ searchLine
+      → (u : base-answer.Answer) → u ≡ base.answerOf m p l → (marks : List ℕ) → marks ≡ base.after m p l .responses
+      → SameBits a set target selectors u marks
+  same-bits o eo t et h selectors es same m em p ep l el u eu marks er =
+      let accepted : callCheck a r ≡ Passed = told-accepted a r o (ap (λ (x : Answer). told x .refusal) (sym et) ∙ h) in (
+        rw (eu, em, ep, el) (done (machine (a .width) (a .ones) responses) (exactPanel a r d k target) searchLine (exact-accepted a r accepted d k responses same target)),
+        λ j i hj hi b x. rw (es, eo, er, em, ep, el) (exact-bit a r accepted d k responses same target set j i hj hi b x),
+      )
+
+module _ (κs : Lfts 3) (x : ArgsD plain.signature κs) (t : ResD plain.signature κs) (s : AtExit (endedOf 3 plain-kinds.ps plain-kinds.r) κs)
+    (κs′ : Lfts 2) (y : ArgsD plain-pulse.signature κs′) (u : ResD plain-pulse.signature κs′)
+    (q : AtExit (endedOf 2 plain-pulse-kinds.ps plain-pulse-kinds.r) κs′)
+    (d : Source) (k : Mask) (set : Latches) (target : ℕ) (responses : List ℕ) where
+  -- the cell-by-cell machines: a search that replaces a set by the words that agree, accepted; and the exact search on the plane of ones, with any
+  -- responses, as many
+  pub plain-exact : plain-reads.Post κs x t s → plain-pulse-reads.Post κs′ y u q
+      → asked κs x ≡ Search d k Agree set Replace → told t .refusal ≡ 0
+      → length responses ≡ length (lent κs x .ones) → machineOf κs′ y ≡ machine (lent κs x .width) (lent κs x .ones) responses
+      → panelGiven κs′ y ≡ exactPanel (lent κs x) (held κs x) d k target → raised κs′ y ≡ searchLine
+      → SameBits (lent κs x) set target (now (s .1 .1 .0)) u (now (q .1 .0))
+  plain-exact h g eo accepted same em ep el =
+      same-bits (lent κs x) (held κs x) d k set target responses (asked κs x) eo t (h .0) accepted (now (s .1 .1 .0)) (h .1 .1 .1) same
+      (machineOf κs′ y) em (panelGiven κs′ y) ep (raised κs′ y) el u (g .0) (now (q .1 .0)) (g .1 .1)
+
+  -- the word-wide ones
+  pub wide-exact : wide-reads.Post κs x t s → wide-pulse-reads.Post κs′ y u q
+      → asked κs x ≡ Search d k Agree set Replace → told t .refusal ≡ 0
+      → length responses ≡ length (lent κs x .ones) → machineOf κs′ y ≡ machine (lent κs x .width) (lent κs x .ones) responses
+      → panelGiven κs′ y ≡ exactPanel (lent κs x) (held κs x) d k target → raised κs′ y ≡ searchLine
+      → SameBits (lent κs x) set target (now (s .1 .1 .0)) u (now (q .1 .0))
+  wide-exact h g eo accepted same em ep el =
+      same-bits (lent κs x) (held κs x) d k set target responses (asked κs x) eo t (h .0) accepted (now (s .1 .1 .0)) (h .1 .1 .1) same
+      (machineOf κs′ y) em (panelGiven κs′ y) ep (raised κs′ y) el u (g .0) (now (q .1 .0)) (g .1 .1)
