@@ -28,7 +28,7 @@ use Rattle.array.specs.Registers.{dataOf, maskOf, sinkOf, load}
 use Rattle.array.specs.Operations.{Array, wordsOf, bus, loadedAt, readInto, writtenAt, writtenTo, wordAfter, registersAfter, operated}
 use Rattle.array.specs.Refusals.{wordTooWide, firstTooWide, allCells, badCells, badRegisters, callCheck, after}
 use Rattle.array_cells.proofs.Bus.{reads-one}
-use Rattle.array.proofs.Checks.{Sound, sound, same-xs, same-selectors, r1-fits, r2-fits, m-fits, Fit, Every, end, more, fits}
+use Rattle.array.proofs.Refusals.{Sound, sound, same-xs, same-selectors, r1-fits, r2-fits, m-fits, Fit, Every, end, more, fits}
 
 -- ---- what an operation makes of the words, by their places
 

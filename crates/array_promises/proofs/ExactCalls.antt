@@ -48,7 +48,7 @@ use Rattle.array.specs.Selectors.{place, latch}
 use Rattle.array.specs.Registers.{dataOf, maskOf}
 use Rattle.array.specs.Operations.{Array, array}
 use Rattle.array.specs.Refusals.{badSizes, callCheck, answerOf, after, told}
-use Rattle.array.proofs.Checks.{Sound, sound, same-xs, same-selectors, r1-fits, r2-fits, m-fits, fits}
+use Rattle.array.proofs.Refusals.{Sound, sound, same-xs, same-selectors, r1-fits, r2-fits, m-fits, fits}
 use Rattle.array_promises.proofs.Again.{at-every}
 use Rattle.array_promises.proofs.Demand1.{told-accepted}
 use Rattle.array_promises.proofs.Demand2.{wordAt}

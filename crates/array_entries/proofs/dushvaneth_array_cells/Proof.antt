@@ -1,5 +1,5 @@
 use Rattle.array.specs.Operations.{array}
-use Rattle.array_entries.proofs.Codes.{unheld, not-named, operated}
+use Rattle.array_entries.proofs.Numbers.{unheld, not-named, operated}
 use borrow.Author.Needs.{needs}
 use Rattle.array_entries.proofs.dushvaneth_array_cells.Statement.{statement}
 use Rattle.array_entries.proofs.dushvaneth_array_cells.Tie as tie

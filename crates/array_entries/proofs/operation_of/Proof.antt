@@ -1,6 +1,6 @@
 use mathlib.Core.Path.{sym, _∙_}
 use native.Mathlib.Omega.{arith}
-use Rattle.array_entries.proofs.Codes.{first, second, third, none-of-them}
+use Rattle.array_entries.proofs.Numbers.{first, second, third, none-of-them}
 use borrow.Author.Needs.{needs}
 use Rattle.array_entries.proofs.operation_of.Statement.{statement}
 use Rattle.array_entries.proofs.operation_of.Tie as tie
