@@ -49,9 +49,19 @@ fn cells(a: &mut Array, code: u32) -> u64 {
 
 const REFUSED: u64 = 1 << 32;
 
-// Digit k of a code to the base 4; past a choice's last name it is the last.
-fn digit(code: u32, k: u32, last: u32) -> u32 {
-    (code >> (2 * k) & 3).min(last)
+// Digit k of a code to the base 4.
+fn digit(code: u32, k: u32) -> u32 {
+    code >> (2 * k) & 3
+}
+
+// How many names the choices of a search, a read and a write have, in order.
+const NAMES: [&[u32]; 3] = [&[2, 3, 2, 2, 3], &[3, 2, 3, 3], &[2, 2, 3, 3, 2]];
+
+// Each digit has a name, and there is none above the last.
+fn is_code(code: u32) -> bool {
+    NAMES.get(digit(code, 0) as usize).map_or(false, |names| {
+        names.iter().zip(1..).all(|(n, k)| digit(code, k) < *n) && code >> (2 * names.len() + 2) == 0
+    })
 }
 
 fn all_ones(width: u32) -> u64 {
@@ -94,17 +104,17 @@ fn selected(choice: u32, complement: u32, byte: u8) -> bool {
 }
 
 fn hand_search(a: &mut Array, code: u32) -> u64 {
-    let data = a.registers[digit(code, 1, 1) as usize];
-    let mask = mask_of(a, digit(code, 2, 2));
-    let latch = 1u8 << digit(code, 4, 1);
+    let data = a.registers[digit(code, 1) as usize];
+    let mask = mask_of(a, digit(code, 2));
+    let latch = 1u8 << digit(code, 4);
     let mut count = 0;
     for k in 0..a.ones.len() {
         let agree = (a.ones[k] ^ data) & mask & !a.xs[k] == 0;
         count += agree as u64;
-        let new = if agree == (digit(code, 3, 1) == 0) { latch } else { 0 };
+        let new = if agree == (digit(code, 3) == 0) { latch } else { 0 };
         let byte = a.selectors[k];
         let old = byte & latch;
-        let put = match digit(code, 5, 2) {
+        let put = match digit(code, 5) {
             0 => new,
             1 => old & new,
             _ => old | new,
@@ -117,25 +127,25 @@ fn hand_search(a: &mut Array, code: u32) -> u64 {
 fn hand_read(a: &mut Array, code: u32) -> u64 {
     let (mut bus, mut count) = (0, 0);
     for k in 0..a.ones.len() {
-        if selected(digit(code, 1, 2), digit(code, 2, 1), a.selectors[k]) {
+        if selected(digit(code, 1), digit(code, 2), a.selectors[k]) {
             bus |= a.ones[k];
             count += 1;
         }
     }
-    let mask = mask_of(a, digit(code, 4, 2));
-    let sink = &mut a.registers[digit(code, 3, 2) as usize];
+    let mask = mask_of(a, digit(code, 4));
+    let sink = &mut a.registers[digit(code, 3) as usize];
     *sink = *sink & !mask | bus & mask;
     count
 }
 
 fn hand_write(a: &mut Array, code: u32) -> u64 {
-    let data = a.registers[digit(code, 2, 1) as usize];
-    let mask = mask_of(a, digit(code, 3, 2));
-    let special = digit(code, 1, 1) == 1;
+    let data = a.registers[digit(code, 2) as usize];
+    let mask = mask_of(a, digit(code, 3));
+    let special = digit(code, 1) == 1;
     let (ones, xs) = if special { (0, mask) } else { (data & mask, 0) };
     let mut count = 0;
     for k in 0..a.ones.len() {
-        if selected(digit(code, 4, 2), digit(code, 5, 1), a.selectors[k]) {
+        if selected(digit(code, 4), digit(code, 5), a.selectors[k]) {
             a.ones[k] = a.ones[k] & !mask | ones;
             a.xs[k] = a.xs[k] & !mask | xs;
             count += 1;
@@ -146,7 +156,8 @@ fn hand_write(a: &mut Array, code: u32) -> u64 {
 
 fn hand(a: &mut Array, code: u32) -> u64 {
     match refusal(a) {
-        0 => match digit(code, 0, 2) {
+        0 if !is_code(code) => 6 * REFUSED,
+        0 => match digit(code, 0) {
             0 => hand_search(a, code),
             1 => hand_read(a, code),
             _ => hand_write(a, code),
@@ -205,6 +216,14 @@ fn spoil(random: &mut Random, a: &mut Array) {
     }
 }
 
+// The code of an operation, now and then with one bit wrong.
+fn code(random: &mut Random) -> u32 {
+    let which = random.below(3);
+    let digits = NAMES[which as usize].iter().rev().fold(0, |above, n| above * 4 + random.below(*n as u64));
+    let wrong = if random.below(12) == 0 { 1 << random.below(32) } else { 0 };
+    (digits * 4 + which) as u32 ^ wrong
+}
+
 const ROUNDS: usize = 20_000;
 
 // How many outcomes were held against the first machine's, and how many of these were refusals.
@@ -215,7 +234,7 @@ fn agree(random: &mut Random) -> (usize, usize) {
         let n = if round % 500 == 0 { 1024 } else { 1 + random.below(12) as usize };
         let mut a = array(random, width, n);
         spoil(random, &mut a);
-        let code = random.next() as u32;
+        let code = code(random);
         let run = |call: Call| {
             let mut b = a.clone();
             (call(&mut b, code), b)

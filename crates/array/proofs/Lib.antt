@@ -1,6 +1,6 @@
 -- laws of the array's definitions
 pub mod Selectors
-pub mod Checks
+pub mod Refusals
 pub mod Walks
 pub mod Words
 pub mod Calls

@@ -18,7 +18,7 @@ use Rattle.laws.proofs.Bits.{digit-at, every-like, every-eqb, and-bit, bit-none
 use Rattle.machine.specs.declared.Found.the-variants.{At, Nothing}
 use Rattle.array.specs.Words.{Word, lowestWord}
 use Rattle.array.specs.Refusals.{wordTooWide, allCells}
-use Rattle.array.proofs.Checks.{all-every, every-narrow}
+use Rattle.array.proofs.Refusals.{all-every, every-narrow}
 use Rattle.array.proofs.Walks.{wordAt, wordsFrom, words-cons, words-end}
 
 -- no place is a one in both planes

@@ -1,4 +1,5 @@
--- Source document 001, 'Associative processing array': one three-state cell, and its truth tables.
+-- Source document 001, 'Associative processing array': one three-state cell, and its truth tables. What is quoted beside them is document 02's,
+-- request a.
 use Prim.Native.Nat.{ℕ, zero, suc}
 use mathlib.Core.Bool.{Bool, true, false, _||_}
 use lib.Dec.{eqb}
@@ -7,9 +8,9 @@ use Rattle.array.specs.declared.Cell.the-variants.{Zero, One, X}
 use Rattle.array.specs.declared.Kind.{Kind}
 use Rattle.array.specs.declared.Kind.the-variants.{Normal, Special}
 
--- ---- a cell in two planes, `ones` and `xs`: 0 is (0,0), 1 is (1,0), X is (0,1)
+-- ---- a cell in two planes, `ones` and `xs` (house, docs/DECISIONS.md 'How are a word's cells lent?'): 0 is (0,0), 1 is (1,0), X is (0,1)
 
--- "(1,1) is no cell" (docs/landings/a.md): no table is ever asked about one, since 12 turns it down
+-- (1,1) is "a cell coded as neither 0, 1 nor X": no table is ever asked about one, since 12 turns it down
 abbrev pub isCell : ℕ → ℕ → Bool
 isCell one x = eqb one 0 || eqb x 0
 

@@ -1,5 +1,5 @@
--- Source document 001, 'Associative processing array': search, read and write, each word and register after one of them. What is quoted of one
--- operation as a whole is from docs/landings/a.md.
+-- Source document 001, 'Associative processing array': search, read and write, each word and register after one of them. Quotations are 001's where
+-- no other document is named.
 use Prim.Native.Nat.{ℕ, max}
 use mathlib.Core.Bool.{Bool, not}
 use mathlib.Core.List.{List, [], _∷_}
@@ -14,7 +14,8 @@ use Rattle.array.specs.Words.{Word, word, cellAt, words, each, howMany}
 use Rattle.array.specs.Selectors.{selected, marked}
 use Rattle.array.specs.Registers.{dataOf, maskOf, sinkOf, load}
 
--- "n words, 1 to 1,024, of N three-state cells, 1 to 64": its width and its three lent buffers
+-- 01: "n words, 1 to 1,024, each of N bits, 1 to 64", here of three-state cells: its width and its three lent buffers (house, docs/DECISIONS.md
+-- 'How are a word's cells lent?' and 'How are the selectors lent?')
 pub record Array : Type 0 where
   pub width : ℕ
   pub ones : List ℕ
@@ -63,7 +64,8 @@ writtenTo n kind d mask w =
 
 -- ---- one operation
 
--- "All words are searched. Read and write act on the selected words"
+-- "All cells, in parallel, compare their contents with the search argument"; a write "acts on the contents of cells in selected words", and a read
+-- changes no word
 unfoldable pub wordAfter : ℕ → Registers → Operation → Word → Word
 wordAfter n r (Search d mask wanted set combine) w =
     word (w .ones) (w .xs) (marked wanted set combine (agrees n (dataOf r d) (maskOf n r mask) w) (w .selectors))
@@ -71,14 +73,16 @@ wordAfter n r (Read selector form sink mask) w = w
 wordAfter n r (Write kind d mask selector form) w =
     pick (selected selector form (w .selectors)) (writtenTo n kind (dataOf r d) (maskOf n r mask) w) w
 
--- "The answer: the registers after the operation .."; "The sink of a read may be M itself (under M as it was before)"
+-- a read is used "to load a specified register (R1, R2, M) based on the value of mask specified": into M under M as it was before (house,
+-- docs/DECISIONS.md 'What does a read into M load, and under which mask?'). No other operation changes a register.
 unfoldable pub registersAfter : ℕ → Registers → Operation → List Word → Registers
 registersAfter n r (Search d mask wanted set combine) ws = r
 registersAfter n r (Read selector form sink mask) ws =
     load sink (readInto n (maskOf n r mask) (sinkOf r sink) (selected selector form) ws) r
 registersAfter n r (Write kind d mask selector form) ws = r
 
--- ".. and a count (search: words that agree; read and write: selected words)"
+-- 01: "A pulse also answers the count: matching words if search is raised, else selected words." The words that match are those that agree (house,
+-- docs/DECISIONS.md 'What does an operation count?').
 unfoldable pub counted : ℕ → Registers → Operation → Word → Bool
 counted n r (Search d mask wanted set combine) w = agrees n (dataOf r d) (maskOf n r mask) w
 counted n r (Read selector form sink mask) w = selected selector form (w .selectors)

@@ -1,5 +1,6 @@
 -- Document 02, request a: "Refusals: 1 to 4 as before, 12 for a cell coded as neither 0, 1 nor X, after 3"; what an operation answers and leaves.
--- The conditions are quoted from docs/landings/a.md.
+-- The conditions are quoted from document 01's table, which "as before" means; what they are held to here is (house), each with its decision in
+-- docs/DECISIONS.md.
 use Prim.Native.Nat.{ℕ}
 use mathlib.Core.Bool.{Bool, true, false, not, _||_}
 use mathlib.Core.List.{List}
@@ -23,27 +24,27 @@ use Rattle.array.specs.Operations.{Array, wordsOf, registersAfter, count
 
 -- ---- the conditions
 
--- 1: "n, or either other lent buffer not n long"
+-- 1: "n is 0 or above 1,024, or the response buffer isn't n long": n is the length of `ones`, and both other buffers are to be n long (house, 'What is n?')
 unfoldable pub badSizes : ℕ → ℕ → ℕ → Bool
 badSizes n xs selectors = badSize n xs || badSize n selectors
 
--- 2 is the machine's badWidth
+-- 2, "N not 1 to 64", is the machine's badWidth
 
--- 3: "a one at or above N in either plane", and the lowest such word
+-- 3: "a word has a one at or above bit N", in either plane (house, 'How are a word's cells lent?'), and the "lowest such word"
 abbrev pub wordTooWide : ℕ → Word → Bool
 wordTooWide n w = tooWide n (w .ones) || tooWide n (w .xs)
 
 unfoldable pub firstTooWide : ℕ → List Word → Found
 firstTooWide n ws = lowestWord (wordTooWide n) 0 ws
 
--- 12: "a cell that is neither 0, 1 nor X"
+-- 12: "a cell coded as neither 0, 1 nor X", in any word (house, 'Which cells does 12 judge?')
 abbrev pub allCells : ℕ → Word → Bool
 allCells n w = every n (λ i. isCell (bit (w .ones) i) (bit (w .xs) i))
 
 unfoldable pub badCells : ℕ → List Word → Bool
 badCells n ws = not (all (allCells n) ws)
 
--- 4: "R1, R2 or M"
+-- 4: "a panel register has such a one": R1, R2 or M (house, 'Which data does refusal 4 judge?')
 unfoldable pub badRegisters : ℕ → Registers → Bool
 badRegisters n r = tooWide n (r .r1) || tooWide n (r .r2) || tooWide n (r .m)
 
@@ -62,7 +63,7 @@ abbrev pub refuseWord : Found → Check
 refuseWord (At k) = found.Refused (WordTooWide k)
 refuseWord Nothing = found.Passed
 
--- 12, "then 4"
+-- 12 and then 4 (house, '12 or 3, 12 or 4?')
 abbrev pub restCheck : ℕ → Registers → List Word → Check
 restCheck n r ws = refuse NoCell (badCells n ws) else refuse RegisterTooWide (badRegisters n r)
 
@@ -82,7 +83,7 @@ answerBy (found.Refused r) done = answer.Refused r
 unfoldable pub answerOf : Array → Registers → Operation → Answer
 answerOf a r o = answerBy (callCheck a r) (answer.Done (registersAfter (a .width) r o (wordsOf a)) (countOf a r o))
 
--- "Nothing lent changes."
+-- "Nothing lent changes"
 abbrev pub changeBy : Check → Array → Array → Array
 changeBy found.Passed new old = new
 changeBy (found.Refused r) new old = old
@@ -104,3 +105,18 @@ numberOf why = tells why .0
 
 abbrev pub alsoAnswers : Refusal → ℕ
 alsoAnswers why = tells why .1
+
+-- ---- an answer's number and values; "other answer fields are 0"
+
+-- the refusal's number, 0 for none, and what it also answers; the registers and the count
+pub record Told : Type 0 where
+  pub refusal : ℕ
+  pub also : ℕ
+  pub registers : Registers
+  pub count : ℕ
+
+-- R1, R2 and M are fields of the answer, so they are 0 there on a refusal (house, 'What are the registers of a refusal?')
+abbrev pub told : Answer → Told
+told (answer.Done r c) = record { refusal = 0; also = 0; registers = r; count = c }
+told (answer.Refused why) =
+    record { refusal = numberOf why; also = alsoAnswers why; registers = record { r1 = 0; r2 = 0; m = 0 }; count = 0 }

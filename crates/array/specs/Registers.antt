@@ -1,4 +1,4 @@
--- The bit control unit: "two data registers (R1, R2) defining a data source or sink for an array operation; and one mask register (M)".
+-- The bit control unit of source document 001: "two data registers (R1, R2) defining a data source or sink for an array operation; and one mask register (M)".
 use Prim.Native.Nat.{ℕ, _-_, _^_}
 use Rattle.array.specs.declared.Registers.{Registers}
 use Rattle.array.specs.declared.Source.{Source}
@@ -13,7 +13,7 @@ abbrev pub dataOf : Registers → Source → ℕ
 dataOf r source.R1 = r .r1
 dataOf r source.R2 = r .r2
 
--- the number whose n bits are all 1
+-- the number whose n bits are all 1 (house, docs/DECISIONS.md 'What are "all 1's" of a mask?')
 abbrev pub allOnes : ℕ → ℕ
 allOnes n = 2 ^ n - 1
 

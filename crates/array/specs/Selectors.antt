@@ -1,5 +1,5 @@
--- The word control unit: "two selector sets, P and S, a bit for each word .. bit 0 P, bit 1 S, its other bits neither read nor changed"
--- (docs/landings/a.md). The other quotations are source document 001's and document 02's.
+-- The word control unit of source document 001, with "its own two selector sets, P and S" (02): a byte for each word, bit 0 P and bit 1 S, its other
+-- bits neither read nor changed (house, docs/DECISIONS.md 'How are the selectors lent?').
 use Prim.Native.Nat.{ℕ}
 use mathlib.Core.Bool.{Bool, true, false, not, _&&_, _||_}
 use lib.Dec.{eqb}
@@ -23,7 +23,7 @@ place latches.S = 1
 abbrev pub latch : Latches → ℕ → Bool
 latch set byte = eqb (bit byte (place set)) 1
 
--- "The contents of a specified set of selector latches (P, S, all 0's) in true or complement form are used to select words"
+-- 001: "The contents of a specified set of selector latches (P, S, all 0's) in true or complement form are used to select words"
 abbrev pub signal : Selector → ℕ → Bool
 signal selector.P byte = latch latches.P byte
 signal selector.S byte = latch latches.S byte
@@ -33,7 +33,8 @@ abbrev pub selected : Selector → Form → ℕ → Bool
 selected s True byte = signal s byte
 selected s Complement byte = not (signal s byte)
 
--- "which a search replaces, ANDs or ORs with the words that agree, or with those that don't"
+-- 02: "which a search replaces, ANDs or ORs with the words that agree, or with those that don't"; 001: word mismatch signals "in true or complement
+-- form", of which the true form is the mismatch (house, docs/DECISIONS.md 'Which words does a search mark?')
 abbrev pub wants : Wanted → Bool → Bool
 wants Agree agree = agree
 wants Disagree agree = not agree

@@ -1,5 +1,5 @@
--- A word of three-state cells, and the words that three lent buffers hold side by side: "two lent planes, `ones` and `xs`", and "one lent byte a
--- word" (docs/landings/a.md).
+-- A word of three-state cells, and the words that three lent buffers hold side by side: two planes and a byte a word (house, docs/DECISIONS.md
+-- 'How are a word's cells lent?' and 'How are the selectors lent?').
 use Prim.Native.Nat.{ℕ, zero, suc, _+_}
 use mathlib.Core.Bool.{Bool}
 use mathlib.Core.List.{List, [], _∷_}

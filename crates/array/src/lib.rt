@@ -64,7 +64,7 @@ pub enum Form {
     Complement,
 }
 
-// A search marks the words that agree, or those that don't.
+// "with the words that agree, or with those that don't"
 pub enum Wanted {
     Agree,
     Disagree,
@@ -114,7 +114,7 @@ pub enum Operation {
     },
 }
 
-// Why an operation is turned down.
+// Why an operation is turned down: "1 to 4 as before, 12 for a cell coded as neither 0, 1 nor X".
 pub enum Refusal {
     Size,
     Width,
@@ -159,7 +159,7 @@ pub fn data_of(registers: Registers, source: Source) -> u64
     }
 }
 
-// All 1's are the `width` bits of a register.
+// All 1's are the `width` bits of a register (house).
 pub fn mask_of(width: u32, registers: Registers, mask: Mask) -> u64
     requires { ⌜ badWidth width ≡ false ⌝ }
     ensures { λ r. ⌜ r ≡ registering.maskOf width registers mask ⌝ }

@@ -1,2 +1,2 @@
 -- laws of the entry points
-pub mod Codes
+pub mod Numbers

@@ -28,7 +28,7 @@ use Rattle.array.specs.Registers.{dataOf, maskOf, sinkOf, load}
 use Rattle.array.specs.Operations.{Array, wordsOf, bus, loadedAt, readInto, writtenAt, writtenTo, wordAfter, registersAfter, operated}
 use Rattle.array.specs.Refusals.{wordTooWide, firstTooWide, allCells, badCells, badRegisters, callCheck, after}
 use Rattle.array_cells.proofs.Bus.{reads-one}
-use Rattle.array.proofs.Checks.{Sound, sound, same-xs, same-selectors, r1-fits, r2-fits, m-fits, Fit, Every, end, more, fits}
+use Rattle.array.proofs.Refusals.{Sound, sound, same-xs, same-selectors, r1-fits, r2-fits, m-fits, Fit, Every, end, more, fits}
 
 -- ---- what an operation makes of the words, by their places
 
@@ -113,7 +113,7 @@ every-after f h (more {w} p ps) = more (h w p) (every-after f h ps)
 first-of : {P : Word → Type 0} {w : Word} {ws : List Word} → Every P (w ∷ ws) → P w × Every P ws
 first-of (more p ps) = (p, ps)
 
-at-every : {P : Word → Type 0} (os xs ss : List ℕ) (k : ℕ) → length xs ≡ length os → length ss ≡ length os → k < length os → Every P (words os xs ss)
+pub at-every : {P : Word → Type 0} (os xs ss : List ℕ) (k : ℕ) → length xs ≡ length os → length ss ≡ length os → k < length os → Every P (words os xs ss)
     → P (word (getD os k 0) (getD xs k 0) (getD ss k 0))
 unfolding words
 at-every [] xs ss k hx hs h e = absurd (omega arith)

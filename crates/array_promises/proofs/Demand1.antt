@@ -16,8 +16,8 @@ use Rattle.array.specs.declared.Check.{Check}
 use Rattle.array.specs.declared.Check.the-variants.{Passed, Refused}
 use Rattle.array.specs.declared.Answer.{Answer}
 use Rattle.array.specs.declared.Answer.the-variants as answer
-use Rattle.array.specs.Operations.{Array, wordsOf, operated}
-use Rattle.array.specs.Refusals.{badSizes, firstTooWide, badCells, badRegisters, _else_, refuse, refuseWord, callCheck, answerBy, answerOf, changeBy, after, tells}
+use Rattle.array.specs.Operations.{Array, wordsOf, registersAfter, countOf, operated}
+use Rattle.array.specs.Refusals.{badSizes, firstTooWide, badCells, badRegisters, _else_, refuse, refuseWord, callCheck, answerBy, answerOf, changeBy, after, tells, told}
 use Rattle.promises.proofs.Demand1.{Entry, first, stray}
 
 -- ---- an operation's table: the numbers it is checked for, in order, each with its condition; 3 also answers the "lowest such word"
@@ -58,11 +58,10 @@ operate-given a r =
     in-order (badSizes (length (a .ones)) (length (a .xs)) (length (a .selectors))) (badWidth (a .width)) (firstTooWide (a .width) (wordsOf a))
     (badCells (a .width) (wordsOf a)) (badRegisters (a .width) r)
 
--- ---- the answer tells that number and that word, 0 and 0 where the operation is accepted
+-- ---- the whole answer: that number and that word and "other answer fields are 0", or 0 and 0 with the registers and the count
 
 abbrev pub tellsAnswer : Answer → ℕ × ℕ
-tellsAnswer (answer.Done r c) = (0, 0)
-tellsAnswer (answer.Refused why) = tells why
+tellsAnswer t = (told t .refusal, told t .also)
 
 by-check : (c : Check) (r : Registers) (k : ℕ) → tellsAnswer (answerBy c (answer.Done r k)) ≡ given c
 by-check Passed r k = refl
@@ -83,6 +82,26 @@ passes (Refused RegisterTooWide) h = cc
 
 pub operate-accepted : (a : Array) (r : Registers) → first (operateTable a r) .0 ≡ 0 → callCheck a r ≡ Passed
 operate-accepted a r h = passes (callCheck a r) (ap (λ (x : ℕ × ℕ). x .0) (operate-given a r) ∙ h)
+
+-- and that it was can be seen from the answer
+pub told-accepted : (a : Array) (r : Registers) (o : Operation) → told (answerOf a r o) .refusal ≡ 0 → callCheck a r ≡ Passed
+told-accepted a r o h = operate-accepted a r (ap (λ (x : ℕ × ℕ). x .0) (sym (operate-tells a r o)) ∙ h)
+
+pub operate-done : (a : Array) (r : Registers) (o : Operation) → first (operateTable a r) .0 ≡ 0
+    → told (answerOf a r o) ≡ record { refusal = 0; also = 0; registers = registersAfter (a .width) r o (wordsOf a); count = countOf a r o }
+unfolding answerOf
+operate-done a r o h = rw (operate-accepted a r h)
+
+others-0 : (c : Check) (r : Registers) (k : ℕ) → (given c .0 ≡ 0 → ⊥)
+    → told (answerBy c (answer.Done r k)) ≡ record { refusal = given c .0; also = given c .1; registers = record { r1 = 0; r2 = 0; m = 0 }; count = 0 }
+others-0 Passed r k h = absurd (h refl)
+others-0 (Refused why) r k h = refl
+
+pub operate-refused : (a : Array) (r : Registers) (o : Operation) → (first (operateTable a r) .0 ≡ 0 → ⊥)
+    → told (answerOf a r o)
+    ≡ record { refusal = first (operateTable a r) .0; also = first (operateTable a r) .1; registers = record { r1 = 0; r2 = 0; m = 0 }; count = 0 }
+unfolding answerOf
+operate-refused a r o h = rw (← operate-given a r) (others-0 (callCheck a r) _ _ (λ e. h (ap (λ (x : ℕ × ℕ). x .0) (sym (operate-given a r)) ∙ e)))
 
 -- ---- "nothing lent changes"
 

@@ -41,7 +41,7 @@ use Rattle.array.specs.Selectors.{place, latch, selected, wants, combined, put,
 use Rattle.array.specs.Registers.{dataOf, maskOf, sinkOf, load}
 use Rattle.array.specs.Operations.{Array, wordsOf, argumentAt, agrees, bus, readInto, writtenTo, wordAfter, registersAfter, countOf}
 use Rattle.array.specs.Refusals.{callCheck, answerOf, after}
-use Rattle.array.proofs.Checks.{sound, same-xs, same-selectors}
+use Rattle.array.proofs.Refusals.{sound, same-xs, same-selectors}
 use Rattle.array_cells.proofs.operate as plain
 use Rattle.array_cells.proofs.operate.Kinds as plain-kinds
 use Rattle.array_cells.proofs.operate.Reads as plain-reads

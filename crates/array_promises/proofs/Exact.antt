@@ -25,13 +25,13 @@ use Rattle.array.specs.declared.Registers.{Registers}
 use Rattle.array.specs.declared.Source.{Source}
 use Rattle.array.specs.declared.Mask.{Mask}
 use Rattle.array.specs.declared.Latches.{Latches}
-use Rattle.array.specs.declared.Wanted.the-variants.{Agree}
-use Rattle.array.specs.declared.Combine.the-variants.{Replace}
+use Rattle.array.specs.declared.Wanted.{Wanted}
+use Rattle.array.specs.declared.Combine.{Combine}
 use Rattle.array.specs.declared.Operation.the-variants.{Search}
 use Rattle.array.specs.declared.Check.the-variants.{Passed}
 use Rattle.array.specs.Cells.{cellOf, argument, mismatch}
 use Rattle.array.specs.Words.{Word, cellAt}
-use Rattle.array.specs.Selectors.{latch}
+use Rattle.array.specs.Selectors.{latch, wants, combined}
 use Rattle.array.specs.Registers.{dataOf, maskOf}
 use Rattle.array.specs.Operations.{Array, agrees}
 use Rattle.array.specs.Refusals.{callCheck, after}
@@ -44,7 +44,7 @@ NoX n w = (i : ℕ) → i < n → cellAt w i ≡ X → ⊥
 -- ---- one bit: argument and cell agree exactly if word and COMP, as the codes read them, are equal
 
 -- no code but these two, where SC1 is 0
-data Mild : Code → Type 0 where
+pub data Mild : Code → Type 0 where
   none : Mild DontCare
   exactly : Mild Exact
 
@@ -52,7 +52,7 @@ mild : (a b : ℕ) → a ≡ 0 → Bit b → Mild (code a b)
 mild a b e off = rw e none
 mild a b e on = rw e exactly
 
-mild-at : (p : Panel) → p .sc1 ≡ 0 → (i : ℕ) → Mild (codeAt p i)
+pub mild-at : (p : Panel) → p .sc1 ≡ 0 → (i : ℕ) → Mild (codeAt p i)
 mild-at p e i = mild (bit (p .sc1) i) (bit (p .sc2) i) (ap (λ (x : ℕ). bit x i) e ∙ bit-none i) (digit-at (p .sc2) i)
 
 cared-bit : {d : Code} {b : ℕ} → Mild d → Bit b → Bit (cared d b)
@@ -183,12 +183,15 @@ pub exact-search-of-all : (n : ℕ) (p : Panel) (w : Word) (r : ℕ) → p .sc1 
 exact-search-of-all n p w r e c h =
     exact-search n p w r e h ∙ ap (λ (t : Bool). t && agrees n (p .comp) (p .sc2) w) (every-word (p .key) (p .care) r c)
 
--- so of an array: the word's latch, after a search that replaces a set by the words that agree, says whether the exact search matches the word
-pub exact-latch : (a : Array) (r : Registers) → callCheck a r ≡ Passed → (d : Source) (mask : Mask) (set : Latches) (p : Panel)
+-- so of an array: the word's latch, after any search, by whether the exact search matches the word: the words that agree or those that don't, put in
+-- place of the set, ANDed or ORed with it
+pub exact-latch : (a : Array) (r : Registers) → callCheck a r ≡ Passed
+    → (d : Source) (mask : Mask) (wanted : Wanted) (set : Latches) (combine : Combine) (p : Panel)
     → p .comp ≡ dataOf r d → p .sc1 ≡ 0 → p .sc2 ≡ maskOf (a .width) r mask → p .care ≡ 0
     → (k response : ℕ) → k < length (a .ones) → NoX (a .width) (wordAt a k)
-    → latch set (wordAt (after a r (Search d mask Agree set Replace)) k .selectors) ≡ matches (a .width) p (getD (a .ones) k 0) response
-exact-latch a r accepted d mask set p comp sc1 sc2 care k response h x =
-    search-marks a r accepted d mask Agree set Replace k h
-    ∙ ap₂ (λ (x m : ℕ). agrees (a .width) x m (wordAt a k)) (sym comp) (sym sc2)
-    ∙ sym (exact-search-of-all (a .width) p (wordAt a k) response sc1 care x)
+    → latch set (wordAt (after a r (Search d mask wanted set combine)) k .selectors)
+    ≡ combined combine (latch set (wordAt a k .selectors)) (wants wanted (matches (a .width) p (getD (a .ones) k 0) response))
+exact-latch a r accepted d mask wanted set combine p comp sc1 sc2 care k response h x =
+    search-marks a r accepted d mask wanted set combine k h
+    ∙ ap (λ (t : Bool). combined combine (latch set (wordAt a k .selectors)) (wants wanted t))
+    (ap₂ (λ (x m : ℕ). agrees (a .width) x m (wordAt a k)) (sym comp) (sym sc2) ∙ sym (exact-search-of-all (a .width) p (wordAt a k) response sc1 care x))

@@ -1,5 +1,5 @@
--- Source document 001, 'Associative processing array': its truth tables; and docs/BOARD.md, 'Cells of three states': its examples, as rows of one
--- table under one statement.
+-- Source document 001, 'Associative processing array': its truth tables; and docs/BOARD.md, 'Cells of three states': its examples, with M stored by
+-- two writes, as rows of one table under one statement.
 use Prim.Native.Nat.{ℕ}
 use mathlib.Core.Path.{_≡_, refl}
 use mathlib.Core.List.{List, [], _∷_, map}
@@ -21,13 +21,11 @@ use Rattle.array.specs.declared.Sink.the-variants as sink
 use Rattle.array.specs.declared.Kind.the-variants.{Normal, Special}
 use Rattle.array.specs.declared.Operation.{Operation}
 use Rattle.array.specs.declared.Operation.the-variants.{Search, Read, Write}
-use Rattle.array.specs.declared.Answer.{Answer}
-use Rattle.array.specs.declared.Answer.the-variants.{Done, Refused}
 use Rattle.array.specs.Cells.{argument, mismatch, written}
 use Rattle.array.specs.Words.{word, words, each, howMany, lowestWord}
 use Rattle.array.specs.Selectors.{marked}
 use Rattle.array.specs.Operations.{Array, array, agrees, bus, readInto, writtenTo, wordAfter, registersAfter, counted}
-use Rattle.array.specs.Refusals.{badSizes, firstTooWide, badCells, badRegisters, callCheck, answerOf, after, numberOf, alsoAnswers}
+use Rattle.array.specs.Refusals.{badSizes, firstTooWide, badCells, badRegisters, callCheck, answerOf, after, Told, told}
 
 -- ---- 001's truth tables
 
@@ -59,19 +57,12 @@ truth-tables = (refl, refl, refl, refl, λ c. refl, λ c. refl)
 
 -- ---- BOARD.md's examples: "Here each word is a rule for households of 8 bits"
 
--- what can be seen of an operation: the refusal's number, 0 for none, and the word that it also answers; the count; the registers and the array
+-- what can be seen of an operation: the whole answer and the array afterwards
 pub record Shown : Type 0 where
-  pub refusal : ℕ
-  pub also : ℕ
-  pub count : ℕ
-  pub registers : Registers
+  pub answer : Told
   pub array : Array
 
-abbrev shownBy : Answer → Registers → Array → Shown
-shownBy (Done r c) old a = record { refusal = 0; also = 0; count = c; registers = r; array = a }
-shownBy (Refused why) old a = record { refusal = numberOf why; also = alsoAnswers why; count = 0; registers = old; array = a }
-
--- what the definitions give, and what BOARD.md states
+-- what the definitions give, and what is stated
 pub record Row : Type 0 where
   pub given : Shown
   pub stated : Shown
@@ -79,12 +70,18 @@ pub record Row : Type 0 where
 -- an operation that is accepted: the count, the registers and the array afterwards
 abbrev accepted : Array → Registers → Operation → ℕ → Registers → Array → Row
 accepted a r o c r′ a′ =
-    record { given = shownBy (answerOf a r o) r (after a r o); stated = record { refusal = 0; also = 0; count = c; registers = r′; array = a′ } }
+    record {
+      given = record { answer = told (answerOf a r o); array = after a r o };
+      stated = record { answer = record { refusal = 0; also = 0; registers = r′; count = c }; array = a′ };
+    }
 
 -- one that is turned down: the number and the word
 abbrev refused : Array → Registers → Operation → ℕ → ℕ → Row
 refused a r o k also =
-    record { given = shownBy (answerOf a r o) r (after a r o); stated = record { refusal = k; also = also; count = 0; registers = r; array = a } }
+    record {
+      given = record { answer = told (answerOf a r o); array = after a r o };
+      stated = record { answer = record { refusal = k; also = also; registers = record { r1 = 0; r2 = 0; m = 0 }; count = 0 }; array = a };
+    }
 
 abbrev registers : ℕ → ℕ → ℕ → Registers
 registers r1 r2 m = record { r1 = r1; r2 = r2; m = m }
@@ -119,6 +116,15 @@ noCell = rules (three 0x03 0x05 0x03) (three 0xF0 0x75 0xF0) (three 1 2 1)
 abbrev past : Array
 past = rules (three 0x03 0x105 0x03) (three 0xF0 0x75 0xF0) (three 1 2 1)
 
+-- 001: "the need to load and store the mask register from and to the array": M is no source of data, so two writes store it (house,
+-- docs/DECISIONS.md 'How is M stored into the array?'), here into rule 1, which S selects. R1 holds 0, R2 all ones, M 0F: after the first write, the
+-- second
+abbrev cleared : Array
+cleared = rules (three 0x03 0x00 0x03) (three 0xF0 0x00 0xF0) (three 1 2 1)
+
+abbrev holding-m : Array
+holding-m = rules (three 0x03 0x0F 0x03) (three 0xF0 0x00 0xF0) (three 1 2 1)
+
 abbrev pub table : List Row
 table =
     accepted unasked (registers 0x53 0 0) (Search source.R1 mask.Ones Agree latches.P Replace) 2 (registers 0x53 0 0) asked
@@ -126,11 +132,13 @@ table =
     ∷ accepted marked-twice (registers 0x53 0 0x0F) (Read selector.P True sink.R2 mask.M) 2 (registers 0x53 0x03 0x0F) marked-twice
     ∷ accepted marked-twice (registers 0x53 0x03 0x0F) (Write Special source.R1 mask.M selector.S True) 1 (registers 0x53 0x03 0x0F) blanked
     ∷ accepted blanked (registers 0x53 0x03 0x0F) (Write Normal source.R1 mask.M selector.Zeros Complement) 3 (registers 0x53 0x03 0x0F) filled
+    ∷ accepted filled (registers 0x00 0xFF 0x0F) (Write Normal source.R1 mask.Ones selector.S True) 1 (registers 0x00 0xFF 0x0F) cleared
+    ∷ accepted cleared (registers 0x00 0xFF 0x0F) (Write Normal source.R2 mask.M selector.S True) 1 (registers 0x00 0xFF 0x0F) holding-m
     ∷ refused noCell (registers 0x53 0x03 0x0F) (Search source.R1 mask.M Agree latches.P And) 12 0
     ∷ refused past (registers 0x53 0x03 0x0F) (Search source.R1 mask.M Agree latches.P And) 3 1
     ∷ []
 
--- the statement: what the definitions give is what BOARD.md states, in every row
+-- the statement: what the definitions give is what is stated, in every row
 pub figures : map (λ (r : Row). r .given) table ≡ map (λ (r : Row). r .stated) table
 unfolding number every all badSize badWidth words each howMany lowestWord marked agrees bus readInto writtenTo wordAfter registersAfter counted badSizes firstTooWide badCells badRegisters callCheck answerOf after
 figures = refl

@@ -3,5 +3,6 @@ pub mod Again
 pub mod Demand1
 pub mod Demand2
 pub mod Exact
+pub mod ExactCalls
 pub mod Figures
 pub mod Settled

@@ -26,7 +26,7 @@ use Rattle.array.specs.Registers.{dataOf, maskOf}
 use Rattle.array.specs.Operations.{Array, array, wordsOf, writtenTo, wordAfter}
 use Rattle.array.specs.Refusals.{callCheck, answerOf, after}
 use Rattle.array.proofs.Calls.{Told, left}
-use Rattle.array.proofs.Checks.{sound, fits, same-xs, same-selectors, each-every}
+use Rattle.array.proofs.Refusals.{sound, fits, same-xs, same-selectors, each-every}
 
 -- ---- what an operation doesn't name it keeps
 

@@ -23,7 +23,7 @@ use Rattle.array.specs.Cells.{isCell, cellOf, oneOf, xOf, argument, mismatch, r
 use Rattle.array.specs.Words.{Word, cellAt}
 use Rattle.array.specs.Registers.{maskOf}
 use Rattle.array.specs.Operations.{agrees, bus, readInto, writtenTo}
-use Rattle.array.proofs.Checks.{Fit, Every, end, more}
+use Rattle.array.proofs.Refusals.{Fit, Every, end, more}
 use Rattle.array_wide.specs.Rules.{agreeing, union, filled, fillOnes, fillXs}
 
 -- ---- one bit

@@ -25,7 +25,7 @@ use Rattle.array.specs.Selectors.{selected, marked}
 use Rattle.array.specs.Registers.{dataOf, maskOf, sinkOf, load}
 use Rattle.array.specs.Operations.{Array, wordsOf, agrees, writtenTo, wordAfter, registersAfter, counted}
 use Rattle.array.specs.Refusals.{callCheck, answerOf, after}
-use Rattle.array.proofs.Checks.{Fit, Sound, sound, fits, width-le, r1-fits, r2-fits, m-fits, each-every, howMany-every}
+use Rattle.array.proofs.Refusals.{Fit, Sound, sound, fits, width-le, r1-fits, r2-fits, m-fits, each-every, howMany-every}
 use Rattle.array_wide.specs.Rules.{agreeing, union, filled, fillOnes, fillXs}
 use Rattle.array_wide.proofs.Bridge.{agrees-is, written-is, read-is, mask-lt}
 use Rattle.array.proofs.Calls.{answered, left}

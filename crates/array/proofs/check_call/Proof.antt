@@ -1,7 +1,7 @@
 use mathlib.Core.Path.{sym, _∙_}
 use Rattle.array.specs.declared.Refusal.the-variants.{Size, Width}
 use Rattle.array.specs.Refusals.{callCheck}
-use Rattle.array.proofs.Checks.{refused, onward, word-refused, no-word-refused, sizes-same}
+use Rattle.array.proofs.Refusals.{refused, onward, word-refused, no-word-refused, sizes-same}
 use borrow.Author.Needs.{needs}
 use Rattle.array.proofs.check_call.Statement.{statement}
 use Rattle.array.proofs.check_call.Tie as tie

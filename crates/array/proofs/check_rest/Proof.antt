@@ -1,6 +1,6 @@
 use mathlib.Core.Path.{sym, _∙_}
 use Rattle.array.specs.declared.Refusal.the-variants.{NoCell, RegisterTooWide}
-use Rattle.array.proofs.Checks.{refused, onward, last, none}
+use Rattle.array.proofs.Refusals.{refused, onward, last, none}
 use borrow.Author.Needs.{needs}
 use Rattle.array.proofs.check_rest.Statement.{statement}
 use Rattle.array.proofs.check_rest.Tie as tie

@@ -1,6 +1,6 @@
 use mathlib.Core.Path.{sym, _∙_}
 use Rattle.array.specs.Operations.{array}
-use Rattle.array.proofs.Checks as checks
+use Rattle.array.proofs.Refusals as checks
 use Rattle.array.proofs.Calls as calls
 use borrow.Author.Needs.{needs}
 use Rattle.array_cells.proofs.operate.Statement.{statement}

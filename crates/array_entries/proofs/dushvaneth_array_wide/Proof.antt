@@ -1,5 +1,5 @@
 use Rattle.array.specs.Operations.{array}
-use Rattle.array_entries.proofs.Codes.{unheld, operated}
+use Rattle.array_entries.proofs.Numbers.{unheld, not-named, operated}
 use borrow.Author.Needs.{needs}
 use Rattle.array_entries.proofs.dushvaneth_array_wide.Statement.{statement}
 use Rattle.array_entries.proofs.dushvaneth_array_wide.Tie as tie
@@ -11,9 +11,16 @@ returns c =
 
 returns-2 : tie.Need-returns-2
 returns-2 c =
-    let t = c .before .before in let k = t .before .before .before .before .before .before .before .before in let e = k .before in let h = e .before .before .before .before in let a = h .before .before .before .before .before .before .before .args in
+    let e = c .before .before .before .before .before .before in let h = e .before in let a = h .before .before .before .before .before .before .before .args in
+    not-named (array (a .width) (a .ones .now) (a .xs .now) (a .selectors .now)) (a .registers .now) (a .code) (search needs)
+    (h .registers-of .result) (h .registers-of .ensures) (e .operation-of .result) (e .operation-of .ensures) (c .before .before .before .before .enum-told .given .1)
+    (c .refuse-code .result) (c .refuse-code .ensures)
+
+returns-3 : tie.Need-returns-3
+returns-3 c =
+    let t = c .before .before in let k = t .before .before .before .before .before .before .before .before in let q = k .before .before .before .before .before in let e = q .before .before in let h = e .before in let a = h .before .before .before .before .before .before .before .args in
     operated (array (a .width) (a .ones .now) (a .xs .now) (a .selectors .now)) (a .registers .now) (a .code) (search needs)
-    (h .registers-of .result) (h .registers-of .ensures) (e .operation-of .result) (e .operation-of .ensures)
+    (h .registers-of .result) (h .registers-of .ensures) (e .operation-of .result) (e .operation-of .ensures) _ (q .asked .given .1)
     (k .operate .result) (k .operate .ensures .0) (t .settle .result) _ _ _ _ (t .settle .ensures .0)
     (k .operate .ensures .1 .0) (k .operate .ensures .1 .1 .0) (k .operate .ensures .1 .1 .1) (t .settle .ensures .1)
 
@@ -24,10 +31,18 @@ dushvaneth-array-wide-spec =
     returns
     (λ c κs. search needs)
     (λ c κs. search needs)
+    (λ c. search needs)
+    (λ c. search needs)
+    (λ c κs. search needs)
+    (λ c. search needs)
+    (λ c. search needs)
+    (λ c. search needs)
+    (λ c. search needs)
+    returns-2
     (λ c κs. search needs)
     (λ c κs. search needs)
     (λ c. search needs)
     (λ c. search needs)
     (λ c. search needs)
     (λ c. search needs)
-    returns-2)
+    returns-3)

@@ -1,6 +1,6 @@
 use mathlib.Core.Path.{refl, ap}
 use Prim.Native.Nat.{ℕ, _*_}
-use Rattle.array_entries.proofs.Codes.{stored}
+use Rattle.array_entries.proofs.Numbers.{stored}
 use borrow.Author.Needs.{needs}
 use Rattle.array_entries.proofs.settle.Statement.{statement}
 use Rattle.array_entries.proofs.settle.Tie as tie

@@ -5,6 +5,8 @@ use Rattle.array_entries.proofs.write_of.Tie as tie
 returns : tie.Need-returns
 returns c =
     rw (
+      ← c .before .before .before .before .before .before .before .before .before .before .before .is-write .ensures,
+      c .before .before .before .before .before .before .before .before .before .before .if1 .taken,
       c .form-at .ensures,
       c .before .digit-of5 .ensures,
       c .before .before .selector-at .ensures,
@@ -16,6 +18,9 @@ returns c =
       c .before .before .before .before .before .before .before .before .kind-at .ensures,
       c .before .before .before .before .before .before .before .before .before .digit-of .ensures,
     )
+
+returns-2 : tie.Need-returns-2
+returns-2 c = rw (← c .before .is-write .ensures, c .if1 .left)
 
 pub write-of-spec : {M : Type 1} → statement M
 write-of-spec =
@@ -31,4 +36,6 @@ write-of-spec =
     (λ c κs. search needs)
     (λ c κs. search needs)
     (λ c κs. search needs)
-    returns)
+    (λ c κs. search needs)
+    returns
+    returns-2)

@@ -1,5 +1,5 @@
 use Rattle.array.specs.Operations.{array}
-use Rattle.array.proofs.Checks.{sound, same-xs, same-selectors}
+use Rattle.array.proofs.Refusals.{sound, same-xs, same-selectors}
 use Rattle.array_wide.proofs.Sweeps.{searched}
 use borrow.Author.Needs.{needs}
 use Rattle.array_wide.proofs.search.Statement.{statement}
