@@ -3,6 +3,7 @@ use Prim.Native.Nat.{ℕ, zero, suc, _+_, _*_, _/_, _%_, _^_, _<_}
 use mathlib.Core.List.{List, [], _∷_, _++_}
 use lib.ListN.{length, take, drop, getD}
 use Rattle.machine.specs.declared.ResponseBit.{ResponseBit}
+use Rattle.machine.specs.Machine.{responseBits}
 use Rattle.job_plans.specs.declared.Span.{Span}
 use Rattle.job_plans.specs.declared.Job.{Job}
 use Rattle.job_plans.specs.Fields.{job}
@@ -87,11 +88,11 @@ AreBytes bs = Under 256 bs
 
 -- each is a response
 abbrev pub AreResponses : List ℕ → Type 0
-AreResponses rs = Under (256 ^ responseSize) rs
+AreResponses rs = Under (2 ^ responseBits) rs
 
 -- a job's numbers as their types have them: key and care are responses, c is a number of 64 bits
 abbrev pub JobFits : Job → Type 0
-JobFits o = (o .key < 256 ^ responseSize) × (o .care < 256 ^ responseSize) × (o .c < 2 ^ 64)
+JobFits o = (o .key < 2 ^ responseBits) × (o .care < 2 ^ responseBits) × (o .c < 2 ^ 64)
 
 abbrev pub JobsFit : List Job → Type 0
 JobsFit [] = Unit {0}

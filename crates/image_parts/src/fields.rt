@@ -2,8 +2,8 @@
 // Document 01, 'The image' and number 9: "the offset of the first field, read in order, that is cut off or breaks a rule (a job is one
 // field), or of the first byte too many".
 use image_layout::A_AT;
-use image_layout::BITS_AT;
 use image_layout::B_AT;
+use image_layout::BITS_AT;
 use image_layout::CARE_AT;
 use image_layout::CONSTANT_AT;
 use image_layout::CONSTANT_SIZE;
@@ -11,15 +11,15 @@ use image_layout::COUNT_SIZE;
 use image_layout::KEY_AT;
 use image_layout::KIND_AT;
 use image_layout::MOST_JOBS;
-use image_layout::PLACE_AT;
 use image_layout::P_AT;
+use image_layout::PLACE_AT;
 use image_layout::RECORD_SIZE;
 use image_layout::RESPONSE_SIZE;
 use image_layout::Scanned;
 use image_layout::WIDTH_AT;
 use image_layout::WIDTH_SIZE;
-use image_layout::WORDS_AT;
 use image_layout::WORD_SIZE;
+use image_layout::WORDS_AT;
 use job_plans::Held;
 use job_plans::Job;
 use job_plans::Span;
