@@ -16,7 +16,7 @@ use Rattle.jobs.specs.Calls.{startOf, stepOf}
 use Rattle.image.specs.Calls.{readOf}
 use Rattle.text.specs.Ascii.{ascii}
 use Rattle.text.specs.Words.{wordsOf, placeOf}
-use Rattle.text.specs.Rows.{fits, values, byteAt}
+use Rattle.text.specs.Rows.{fits, values}
 use Rattle.text.specs.declared.Number.{Number}
 use Rattle.text.specs.declared.Number.the-variants.{Is, Bad}
 use Rattle.console_commands.specs.declared.Board.{Board}
@@ -26,7 +26,7 @@ use Rattle.console_setting.specs.Settings.{registerNames, letterFor, loaded, hi
 use Rattle.console_pulsing.specs.declared.Named.{Named}
 use Rattle.console_pulsing.specs.declared.Named.the-variants as lines
 use Rattle.console_pulsing.specs.Lines.{linesOf}
-use Rattle.console_pulsing.specs.Calls.{wordIn, pulseOutcome, pulseAfter}
+use Rattle.console_pulsing.specs.Calls.{bitIn, wordIn, pulseOutcome, pulseAfter}
 use Rattle.console_working.specs.Jobs.{offered}
 use Rattle.console_storing.specs.Images.{imageLength, readTurn, readWords, readResponses, fitting}
 use Rattle.console.specs.Obeying.{Desk, After, among, only, unmarked, unchanged, behind, own, machineOf, stateOf, looked, markings, marked, changes, changed, onMachine, reading, makings, named, obeyed}

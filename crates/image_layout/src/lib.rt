@@ -55,6 +55,15 @@ pub fn image_size(n: usize, k: usize) -> usize
     jobs_at(n) + COUNT_SIZE + RECORD_SIZE * k
 }
 
+// The longest image: 1,024 words and as many jobs as can be held.
+pub const LONGEST: usize = WORDS_AT
+    + COUNT_SIZE
+    + WORD_SIZE * 1024
+    + COUNT_SIZE
+    + RESPONSE_SIZE * 1024
+    + COUNT_SIZE
+    + RECORD_SIZE * MOST_JOBS as usize;
+
 // ---- where the parts of a job's record stand in it
 
 pub const KIND_AT: usize = 0;

@@ -10,10 +10,12 @@ fn list(image: &[u8], out: &mut [u8]) {
     output::write(out, end);
 }
 
-// The longest image has 9,255 bytes: with one byte more, what is wrong with a longer input is found already. The longest list
-// has less than 65,536 bytes, as `listing` proves.
+// With one byte more than the longest image has, what is wrong with a longer input is found already.
+const ROOM: usize = image_layout::LONGEST + 1;
+
+// The longest list has less than 65,536 bytes, as `listing` proves.
 fn main() {
-    let mut bytes = [0u8; 9256];
+    let mut bytes = [0u8; ROOM];
     let got = io::read_full(STDIN_FILENO, &mut bytes);
     let mut out = [0u8; 65536];
     list(&bytes[..got], &mut out);

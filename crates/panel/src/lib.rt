@@ -72,9 +72,6 @@ pub fn load_address(panel: &mut Panel, value: WordSlice)
     *panel = p.load_address(value);
 }
 
-// 2 to RESPONSE_BITS: the numbers that an 8-bit register holds.
-const SPAN: u64 = 256;
-
 // ---- above them, with plain parameters: whoever calls `load` needs no proof by hand
 
 // The register of this number, of a panel of its own, which it lends. The value comes in each type that a register has.
@@ -115,7 +112,7 @@ pub fn load(panel: Panel, register: u8, value: u64) -> Panel
     ensures { λ r. ⌜ registers r ≡ pick (takes register value) (load register value panel) (registers panel) ⌝ }
 {
     if takes(register, value) {
-        let narrow = (value % SPAN) as Response;
+        let narrow = machine::response_of(value);
         load_own(panel, register, value, narrow, WordSlice(value as usize))
     } else {
         panel

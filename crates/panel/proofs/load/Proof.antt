@@ -6,8 +6,9 @@ use Rattle.panel.proofs.load.Tie as tie
 
 returns : tie.Need-returns
 returns c =
-    let a = c .before .before .before .args in
-    numbered.taken (a .register) (a .value) (a .panel) _ (sym (c .before .before .takes .ensures) ∙ c .before .if1 .taken) (c .load-own .ensures)
+    let a = c .before .before .before .before .args in
+    numbered.taken (a .register) (a .value) (c .before .response-of .result) (a .panel) _ (sym (c .before .before .before .takes .ensures) ∙ c .before .before .if1 .taken)
+    (c .before .response-of .ensures) (c .load-own .ensures)
 
 returns-2 : tie.Need-returns-2
 returns-2 c =
@@ -15,4 +16,4 @@ returns-2 c =
     numbered.not-taken (a .register) (a .value) (a .panel) (sym (c .before .takes .ensures) ∙ c .if1 .left)
 
 pub load-spec : {M : Type 1} → statement M
-load-spec = tie.close (tie.spec (λ c κs. search needs) (λ c. search needs) (λ c κs. search needs) returns returns-2)
+load-spec = tie.close (tie.spec (λ c κs. search needs) (λ c κs. search needs) (λ c κs. search needs) returns returns-2)
