@@ -1,9 +1,11 @@
 -- Demand 1, of the answers: each "tells the number and what it also answers" of the first condition of its table that holds (`Demand1`), and
 -- "nothing lent changes".
-use Prim.Native.Nat.{ℕ}
+use Prim.Native.Nat.{ℕ, suc, _+_, _≤_}
 use mathlib.Core.Path.{_≡_, refl, sym, ap, _∙_}
-use mathlib.Core.List.{List, []}
-use lib.ListN.{length}
+use mathlib.Core.List.{List, [], _∷_, _++_}
+use native.Mathlib.Omega.{arith}
+use lib.ListN.{length, drop, set}
+use lib.Seq.{sets, drop-set-lt}
 use Rattle.machine.specs.declared.Panel.{Panel}
 use Rattle.machine.specs.declared.Lines.{Lines}
 use Rattle.machine.specs.declared.WordSlice.{WordSlice}
@@ -43,7 +45,9 @@ use Rattle.image.specs.declared.Read.{Read}
 use Rattle.image.specs.declared.Read.the-variants as read
 use Rattle.image.specs.Calls.{writeCheck, writeOf, written, readCheck, readOf, wordsRead, responsesRead, toldWrote, toldRead}
 use Rattle.image_layout.specs.Format.{imageOf}
-use Rattle.image_layout.specs.Reading.{stateIn}
+use Rattle.image_layout.specs.declared.Scanned.the-variants.{Sound}
+use Rattle.image_layout.specs.Reading.{wordsIn, scanned, stateIn}
+use Rattle.image_layout.proofs.Reading.{length-numbers}
 use Rattle.resolver.specs.declared.Resolved.{Resolved}
 use Rattle.resolver.specs.declared.Resolved.the-variants as resolved
 use Rattle.resolver.specs.Answers as resolver
@@ -56,6 +60,7 @@ use Rattle.handout.specs.declared.Report.the-variants as report
 use Rattle.handout.specs.Whole as whole
 use Rattle.handout.specs.Whole.{isDone, isFaulty, ended, reportOf, afterRound}
 use Rattle.rounds.specs.Round.{shown, showCheck, showOf, roundCheck, answerCheck, replyOf, answeredAt, afterAnswer}
+use Rattle.promises.proofs.Demand2.{byte-too-many}
 use Rattle.promises.proofs.Demand1.{Entry, answer-given, answerTable, first, given, machineTable, pulse-given, pulseTable, read-given, readTable, resolution-given, round-given, roundTable, show-given, showTable, start-given, startTable, step-given, stepsTable, total-given, totalTable, write-given, writeTable}
 
 -- ---- the answer tells that number and what it also answers: `tells..` is an answer's, 0 where the call is accepted
@@ -315,3 +320,31 @@ read-unchanged bs ws rs h =
     let c = readCheck bs (length ws) (length rs) in
     let g : given c .0 ≡ 0 → ⊥ = λ e. h (ap (λ (x : ℕ × ℕ). x .0) (sym (read-given bs (length ws) (length rs))) ∙ e) in
     (kept c _ ws g, kept c _ rs g)
+
+-- ---- "Reading changes only the first n of each destination, writing only the image's own bytes": what is past them stays, whatever the call answers
+
+drop-sets : (vs l : List ℕ) (i n : ℕ) → i + length vs ≤ n → drop n (sets l i vs) ≡ drop n l
+drop-sets [] l i n h = refl
+drop-sets (v ∷ vs) l i n h = drop-sets vs (set l i v) (suc i) n (omega arith) ∙ drop-set-lt n l i v (omega arith)
+
+past : (c : Check) (vs l : List ℕ) (n : ℕ) → length vs ≡ n → drop n (changeBy c (sets l 0 vs) l) ≡ drop n l
+past Passed vs l n h = drop-sets vs l 0 n (omega arith)
+past (Refused r) vs l n h = refl
+
+pub past-image-stays : (s : State) (out : List ℕ) → drop (length (imageOf s)) (written s out) ≡ drop (length (imageOf s)) out
+unfolding written
+past-image-stays s out = past (writeCheck s (length out)) (imageOf s) out (length (imageOf s)) refl
+
+pub past-n-stays : (bs ws rs : List ℕ)
+    → (drop (wordsIn bs) (wordsRead bs ws rs) ≡ drop (wordsIn bs) ws) × (drop (wordsIn bs) (responsesRead bs ws rs) ≡ drop (wordsIn bs) rs)
+unfolding wordsRead responsesRead stateIn
+past-n-stays bs ws rs =
+    let c = readCheck bs (length ws) (length rs) in
+    (past c (stateIn bs .machine .words) ws (wordsIn bs) (length-numbers _ _ _), past c (stateIn bs .machine .responses) rs (wordsIn bs) (length-numbers _ _ _))
+
+-- ---- 9: "the first byte too many", of any sound image and any bytes after it
+
+pub too-many-told : (image : List ℕ) (b : ℕ) (more : List ℕ) (words responses : ℕ) → scanned image ≡ Sound
+    → toldRead (readOf (image ++ (b ∷ more)) words responses) ≡ record { refusal = 9; also = length image; width = 0; words = 0; held = held.Nothing }
+unfolding readOf readCheck
+too-many-told image b more words responses h = rw (byte-too-many image b more h)

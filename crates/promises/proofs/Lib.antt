@@ -5,4 +5,5 @@ pub mod Demand2
 pub mod Demand3
 pub mod Figures
 pub mod Settled
+pub mod Syllables
 pub mod Totals
