@@ -1,9 +1,9 @@
 -- what is promised: a reader opens these files
+pub mod Adding
 pub mod Answered
 pub mod Demand1
 pub mod Demand2
 pub mod Demand3
 pub mod Figures
 pub mod Settled
-pub mod Syllables
 pub mod Totals
