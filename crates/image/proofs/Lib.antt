@@ -5,3 +5,4 @@ pub mod Sections
 pub mod RoundTrip
 pub mod Unique
 pub mod Cuts
+pub mod TooMany

@@ -10,8 +10,10 @@ use lib.Seq.{sets}
 use Rattle.machine.specs.declared.Check.{Check}
 use Rattle.machine.specs.declared.Check.the-variants as check
 use Rattle.machine.specs.declared.Refusal.the-variants.{Malformed, NoRoom}
-use Rattle.machine.specs.Refusals.{_else_, refuse, machineCheck, answerBy, changeBy}
+use Rattle.machine.specs.Refusals.{_else_, refuse, machineCheck, answerBy, changeBy, numberOf, alsoAnswers}
 use Rattle.job_plans.specs.declared.Job.{Job}
+use Rattle.job_plans.specs.declared.Held.{Held}
+use Rattle.job_plans.specs.declared.Held.the-variants.{Nothing}
 use Rattle.job_plans.specs.Places.{heldCheck}
 use Rattle.jobs.specs.Runs.{State}
 use Rattle.image.specs.declared.Wrote.{Wrote}
@@ -64,6 +66,30 @@ wordsRead bs ws rs = changeBy (readCheck bs (length ws) (length rs)) (sets ws 0 
 
 unfoldable pub responsesRead : List ℕ → List ℕ → List ℕ → List ℕ
 responsesRead bs ws rs = changeBy (readCheck bs (length ws) (length rs)) (sets rs 0 (stateIn bs .machine .responses)) rs
+
+-- ---- each answer's number and values; "other answer fields are 0"
+
+-- of writing: how many bytes the image has
+pub record ToldWrote : Type 0 where
+  pub refusal : ℕ
+  pub also : ℕ
+  pub size : ℕ
+
+abbrev pub toldWrote : Wrote → ToldWrote
+toldWrote (wrote.Length k) = record { refusal = 0; also = 0; size = k }
+toldWrote (wrote.Refused r) = record { refusal = numberOf r; also = alsoAnswers r; size = 0 }
+
+-- of reading: N, n and the job held, of which 0 is none (house)
+pub record ToldRead : Type 0 where
+  pub refusal : ℕ
+  pub also : ℕ
+  pub width : ℕ
+  pub words : ℕ
+  pub held : Held
+
+abbrev pub toldRead : Read → ToldRead
+toldRead (read.Machine w n h) = record { refusal = 0; also = 0; width = w; words = n; held = h }
+toldRead (read.Refused r) = record { refusal = numberOf r; also = alsoAnswers r; width = 0; words = 0; held = Nothing }
 
 -- ---- words of the theorems
 

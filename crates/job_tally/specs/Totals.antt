@@ -7,7 +7,7 @@ use Rattle.laws.specs.Bits.{bit, number, pick, digit}
 use Rattle.machine.specs.declared.Check.{Check}
 use Rattle.machine.specs.declared.Refusal.the-variants.{Unfit}
 use Rattle.machine.specs.Machine.{Machine, selected}
-use Rattle.machine.specs.Refusals.{_else_, refuse, answerBy}
+use Rattle.machine.specs.Refusals.{_else_, refuse, answerBy, numberOf, alsoAnswers}
 use Rattle.job_plans.specs.declared.Span.{Span}
 use Rattle.job_plans.specs.declared.Job.{Job}
 use Rattle.job_plans.specs.declared.Held.{Held}
@@ -78,3 +78,14 @@ heldPulses m (Holds o) = pulses m o
 
 unfoldable pub totalOf : Machine → Held → Total
 totalOf m h = answerBy (totalCheck m h) total.Refused (total.Pulses (heldPulses m h))
+
+-- ---- each answer's number and values; "other answer fields are 0"
+
+pub record Told : Type 0 where
+  pub refusal : ℕ
+  pub also : ℕ
+  pub pulses : ℕ
+
+abbrev pub told : Total → Told
+told (total.Pulses k) = record { refusal = 0; also = 0; pulses = k }
+told (total.Refused r) = record { refusal = numberOf r; also = alsoAnswers r; pulses = 0 }

@@ -8,9 +8,9 @@ use Rattle.machine.specs.declared.ResponseBit.{ResponseBit}
 use Rattle.job_plans.specs.declared.Span.{Span}
 use Rattle.job_plans.specs.declared.Job.{Job}
 use Rattle.job_plans.specs.Fields.{kindOf}
-use Rattle.job_plans.specs.Commands.{opening, trial, second, command, order, plus, multiaddLine}
+use Rattle.job_plans.specs.Commands.{bitOf, opening, trial, second, command, order, plus, multiaddLine}
 use Rattle.job_plans.proofs.ByKind.{picked, passed}
-use Rattle.job_plans.proofs.Shifts.{one-shifted, run}
+use Rattle.job_plans.proofs.Shifts.{run}
 
 pub at-opening : (o : Job) → o .phase ≡ 0 → opening o ≡ command o
 unfolding command
@@ -25,8 +25,10 @@ unfolding command
 at-second o h g = passed _ _ _ (ne-eqb (o .phase) 1 g) ∙ passed _ _ _ (ne-eqb (o .phase) 0 h)
 
 -- an add's registers, shifted
-pub plus-is : (y : ResponseBit) (u m v : ℕ) (s : Span) → 0 < s .width → s .low .0 + s .width ≤ 64 → v < 2 ^ s .width → u ≡ 2 ^ y .0 → m ≡ 2 ^ s .width - 1
-    → order multiaddLine (v * 2 ^ s .low .0 % 2 ^ 64) (1 * 2 ^ (s .low .0 + s .width - 1) % 2 ^ 64) 0 (m * 2 ^ s .low .0 % 2 ^ 64) u u 0
+pub plus-is : (y : ResponseBit) (u m t v : ℕ) (s : Span) → 0 < s .width → s .low .0 + s .width ≤ 64 → v < 2 ^ s .width → u ≡ 2 ^ y .0 → m ≡ 2 ^ s .width - 1
+    → t ≡ bitOf s (s .width - 1)
+    → order multiaddLine (v * 2 ^ s .low .0 % 2 ^ 64) t 0 (m * 2 ^ s .low .0 % 2 ^ 64) u u 0
     ≡ plus y s v
-plus-is y u m v s h g l e d =
-    rw (e, d, shl-exact (s .width) (s .low .0) 64 l (omega arith), one-shifted (s .low .0 + s .width - 1) 64 (omega arith), run (s .low .0) (s .width) g)
+plus-is y u m t v s h g l e d f =
+    let k : s .low .0 + (s .width - 1) ≡ s .low .0 + s .width - 1 = omega arith in
+    rw (e, d, f, k, shl-exact (s .width) (s .low .0) 64 l (omega arith), run (s .low .0) (s .width) g)

@@ -2,6 +2,7 @@
 use job_plans::Command;
 use job_plans::Job;
 use job_plans::Span;
+use machine::BitSlice;
 use machine::Lines;
 use machine::Panel;
 use machine::Response;
@@ -26,12 +27,28 @@ fn response_bit(x: ResponseBit) -> Response
     one << x.0
 }
 
+// Bit i of a syllable, by its number in the word.
+fn slice_of(s: Span, i: u8) -> BitSlice
+    requires { ⌜ s .low .0 + i < 64 ⌝ }
+    ensures { λ r. ⌜ r .0 ≡ s .low .0 + i ⌝ }
+{
+    BitSlice(s.low.0 + i)
+}
+
+// The bit of that number alone.
+fn one_at(b: BitSlice) -> u64
+    requires { ⌜ b .0 < 64 ⌝ }
+    ensures { λ r. ⌜ r ≡ 2 ^ b .0 ⌝ }
+{
+    1u64 << b.0
+}
+
 // Bit i of a syllable, at its place in the word.
 fn bit_of(s: Span, i: u8) -> u64
     requires { ⌜ s .low .0 + i < 64 ⌝ }
     ensures { λ r. ⌜ r ≡ commands.bitOf s i ⌝ }
 {
-    1u64 << (s.low.0 + i)
+    one_at(slice_of(s, i))
 }
 
 // "c·2^i mod 2^p"
@@ -78,7 +95,7 @@ fn plus(y: ResponseBit, s: Span, v: u64) -> Command
     let low = s.low.0;
     let under = response_bit(y);
     let comp = v << low;
-    let top = 1u64 << (low + s.width - 1);
+    let top = bit_of(s, s.width - 1);
     let run = low_bits(s.width as u32) << low;
     let mut panel = Panel::blank();
     panel.comp = comp;

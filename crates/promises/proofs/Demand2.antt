@@ -10,7 +10,7 @@ use borrow.Fn.World.{ArgsD, ResD}
 use borrow.Fn.Kinds.{endedOf}
 use denote.Triple.Clauses.{AtExit}
 use denote.Ref.{now}
-use mathlib.Core.List.{List}
+use mathlib.Core.List.{List, _∷_, _++_}
 use lib.ListN.{length, take, getD}
 use Rattle.laws.specs.Bits.{bit, pick, digit}
 use Rattle.laws.proofs.Digits.{bit-lt}
@@ -39,6 +39,7 @@ use Rattle.image.proofs.RoundTrip.{roundTrip, injective}
 use Rattle.image.specs.Calls.{Stored}
 use Rattle.image.proofs.Unique.{one-image, stored-again}
 use Rattle.image.proofs.Cuts.{within, image-cut-off}
+use Rattle.image.proofs.TooMany.{too-many}
 use Rattle.image_layout.specs.Reading.{startOf}
 use Rattle.cells.proofs.pulse as plain
 use Rattle.cells.proofs.pulse.Kinds as plain-kinds
@@ -139,3 +140,7 @@ place-within = within
 -- a proper prefix of an image is turned down at the field that is cut
 pub cut-field : (s : State) (k : ℕ) → Stored s → k < length (imageOf s) → scanned (take k (imageOf s)) ≡ Broken (startOf (fieldsOf (imageOf s)) 0 k)
 cut-field = image-cut-off
+
+-- sound bytes and then any more: turned down at the first byte too many
+pub byte-too-many : (b : List ℕ) (x : ℕ) (more : List ℕ) → scanned b ≡ Sound → scanned (b ++ (x ∷ more)) ≡ Broken (length b)
+byte-too-many = too-many

@@ -4,6 +4,7 @@ use Prim.Native.Nat.{ℕ, _-_, _^_}
 use mathlib.Core.Path.{_≡_, refl}
 use mathlib.Core.List.{List, [], _∷_, map}
 use mathlib.Core.Bool.{Bool, true, false}
+use lib.ListN.{length}
 use Rattle.laws.specs.Bits.{bit, number, every, under}
 use Rattle.laws.specs.Lists.{all, zip, count}
 use Rattle.machine.specs.declared.Panel.{Panel}
@@ -89,14 +90,18 @@ searched figure p c rs =
       stated = record { pulses = 1; told = counted c; words = three; responses = rs };
     }
 
--- one word, of this width: what it becomes
-abbrev becomes : ℕ → ℕ → Panel → Lines → ℕ → ℕ → Row
-becomes figure n p l w w′ =
+-- words of this width, responses 0: what they become; all are selected
+abbrev become : ℕ → ℕ → Panel → Lines → List ℕ → List ℕ → Row
+become figure n p l ws ws′ =
     record {
       figure = figure;
-      given = onePulse (record { width = n; words = w ∷ []; responses = 0 ∷ [] }) p l;
-      stated = record { pulses = 1; told = counted 1; words = w′ ∷ []; responses = 0 ∷ [] };
+      given = onePulse (record { width = n; words = ws; responses = map (λ (w : ℕ). 0) ws }) p l;
+      stated = record { pulses = 1; told = counted (length ws); words = ws′; responses = map (λ (w : ℕ). 0) ws };
     }
+
+-- one word
+abbrev becomes : ℕ → ℕ → Panel → Lines → ℕ → ℕ → Row
+becomes figure n p l w w′ = become figure n p l (w ∷ []) (w′ ∷ [])
 
 -- ---- jobs: X 0, Y 1
 
@@ -135,13 +140,13 @@ table =
     searched 1 (panel 0x34 0x88 0x0F 0xF0 0 1) 2 (1 ∷ 0 ∷ 1 ∷ [])
     ∷ searched 2 (panel 0x35 0x88 0x0F 0xF0 0 1) 0 (0 ∷ 0 ∷ 0 ∷ [])
     ∷ searched 3 (panel 0x34 0x88 0x0C 0xF0 0 1) 0 (0 ∷ 0 ∷ 0 ∷ [])
-    ∷ becomes 4 8 (panel 0x0C 0x88 0 0 0xFF 0) multiadd 0x35 0x31
-    ∷ becomes 4 8 (panel 0x0C 0x80 0 0 0xFF 0) multiadd 0x35 0x41
-    ∷ becomes 4 8 (panel 0x0C 0xFF 0 0 0xFF 0) multiadd 0x35 0x39
-    ∷ becomes 5 8 (panel 0xAA 0x88 0 0 0x0F 0) multiwrite 0x9C 0x9A
+    ∷ become 4 8 (panel 0x0C 0x88 0 0 0xFF 0) multiadd three (0x31 ∷ 0x98 ∷ 0x31 ∷ [])
+    ∷ become 4 8 (panel 0x0C 0x80 0 0 0xFF 0) multiadd three (0x41 ∷ 0xA8 ∷ 0x41 ∷ [])
+    ∷ become 4 8 (panel 0x0C 0xFF 0 0 0xFF 0) multiadd three (0x39 ∷ 0x90 ∷ 0x39 ∷ [])
+    ∷ become 5 8 (panel 0xAA 0x88 0 0 0x0F 0) multiwrite three (0x3A ∷ 0x9A ∷ 0x3A ∷ [])
     ∷ becomes 6 8 (panel 0b110010 0x88 0 0 0b110010 0) multiwrite 0b000101 0b110111
     ∷ becomes 6 8 (panel 0b110010 0x88 0 0 0b001101 0) multiwrite 0b111111 0b110010
-    ∷ becomes 7 8 (panel 0x0C 0x88 0 0 0x0F 0) write-and-add 0x35 0x3D
+    ∷ become 7 8 (panel 0x0C 0x88 0 0 0x0F 0) write-and-add three (0x3D ∷ 0x9C ∷ 0x35 ∷ [])
     ∷ becomes 8 64 (panel 1 0 0 0 (2 ^ 64 - 1) 0) multiadd (2 ^ 64 - 1) 0
     ∷ worked 9 (job 1 0 (span 0 4) none none 0) three 7 three (0 ∷ 1 ∷ 0 ∷ [])
     ∷ worked 9 (job 2 0 (span 0 4) none none 0) three 7 three (1 ∷ 0 ∷ 1 ∷ [])

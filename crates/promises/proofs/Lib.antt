@@ -1,4 +1,5 @@
 -- what is promised: a reader opens these files
+pub mod Adding
 pub mod Answered
 pub mod Demand1
 pub mod Demand2

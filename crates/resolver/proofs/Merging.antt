@@ -9,6 +9,7 @@ use native.Mathlib.Omega.{arith}
 use lib.ListN.{length, take, drop, getD, take-append-drop, length-drop, drop-of-length-le}
 use lib.Seq.{length-take-le, take-all, drop-cons}
 use Rattle.laws.specs.Bits.{pick}
+use Rattle.machine.specs.declared.WordSlice.{WordSlice}
 use Rattle.machine.specs.declared.Found.{Found}
 use Rattle.machine.specs.declared.Found.the-variants.{At, Nothing}
 use Rattle.machine.specs.Resolution.{lowest}
@@ -24,15 +25,19 @@ lower-assoc : (f g h : Found) → lowerOf (lowerOf f g) h ≡ lowerOf f (lowerOf
 lower-assoc (At k) g h = refl
 lower-assoc Nothing g h = refl
 
-alone-first : (t : Bool) (k : ℕ) (f : Found) → lowerOf (alone t k) f ≡ pick t (At (record { 0 = k })) f
+-- word k, by its number
+abbrev pub word : ℕ → WordSlice
+word k = record { 0 = k }
+
+alone-first : (t : Bool) (k : WordSlice) (f : Found) → lowerOf (alone t k) f ≡ pick t (At k) f
 alone-first true k f = refl
 alone-first false k f = refl
 
 module _ (test : ℕ → Bool) where
   -- one word, then the rest
-  head-first : (k x : ℕ) (xs : List ℕ) → lowest test k (x ∷ xs) ≡ lowerOf (alone (test x) k) (lowest test (suc k) xs)
+  head-first : (k x : ℕ) (xs : List ℕ) → lowest test k (x ∷ xs) ≡ lowerOf (alone (test x) (word k)) (lowest test (suc k) xs)
   unfolding lowest
-  head-first k x xs = sym (alone-first (test x) k (lowest test (suc k) xs))
+  head-first k x xs = sym (alone-first (test x) (word k) (lowest test (suc k) xs))
 
   joint : (k : ℕ) (xs ys : List ℕ) → lowest test k (xs ++ ys) ≡ lowerOf (lowest test k xs) (lowest test (k + length xs) ys)
   unfolding lowest
@@ -40,17 +45,17 @@ module _ (test : ℕ → Bool) where
   joint k (x ∷ xs) ys =
       let e : suc k + length xs ≡ k + length (x ∷ xs) = omega arith in
       head-first k x (xs ++ ys)
-      ∙ ap (lowerOf (alone (test x) k)) (joint (suc k) xs ys ∙ ap (λ (n : ℕ). lowerOf (lowest test (suc k) xs) (lowest test n ys)) e)
-      ∙ sym (lower-assoc (alone (test x) k) (lowest test (suc k) xs) (lowest test (k + length (x ∷ xs)) ys))
+      ∙ ap (lowerOf (alone (test x) (word k))) (joint (suc k) xs ys ∙ ap (λ (n : ℕ). lowerOf (lowest test (suc k) xs) (lowest test n ys)) e)
+      ∙ sym (lower-assoc (alone (test x) (word k)) (lowest test (suc k) xs) (lowest test (k + length (x ∷ xs)) ys))
       ∙ sym (ap (λ (f : Found). lowerOf f (lowest test (k + length (x ∷ xs)) ys)) (head-first k x xs))
 
 -- ---- the scan: what is found below i, and what is to come from i on, give the whole
 module _ (test : ℕ → Bool) (xs : List ℕ) where
-  pub scan-step : (found here : Found) (i : ℕ) → i < length xs → here ≡ alone (test (getD xs i 0)) i
+  pub scan-step : (found here : Found) (i : ℕ) → i < length xs → here ≡ alone (test (getD xs i 0)) (word i)
       → lowerOf (lowerOf found here) (lowest test (i + 1) (drop (i + 1) xs)) ≡ lowerOf found (lowest test i (drop i xs))
   scan-step found here i h e =
       rw (e, add-one i, drop-cons xs i 0, head-first test i (getD xs i 0) (drop (suc i) xs))
-      (lower-assoc found (alone (test (getD xs i 0)) i) (lowest test (suc i) (drop (suc i) xs)))
+      (lower-assoc found (alone (test (getD xs i 0)) (word i)) (lowest test (suc i) (drop (suc i) xs)))
 
   pub scan-end : (found : Found) (i : ℕ) → length xs ≤ i → lowerOf found (lowest test i (drop i xs)) ≡ found
   unfolding lowest
@@ -66,13 +71,13 @@ module _ (test : ℕ → Bool) (k : ℕ) (xs : List ℕ) where
       go [] h = refl
       go (x ∷ xs) h = absurd (omega arith)
 
-  pub one-word : (f : Found) → length xs ≡ 1 → f ≡ alone (test (getD xs 0 0)) k → f ≡ lowest test k xs
+  pub one-word : (f : Found) → length xs ≡ 1 → f ≡ alone (test (getD xs 0 0)) (word k) → f ≡ lowest test k xs
   unfolding lowest
   one-word f h e = go xs h e
     where
-      go : (xs : List ℕ) → length xs ≡ 1 → f ≡ alone (test (getD xs 0 0)) k → f ≡ lowest test k xs
+      go : (xs : List ℕ) → length xs ≡ 1 → f ≡ alone (test (getD xs 0 0)) (word k) → f ≡ lowest test k xs
       go [] h e = absurd (omega arith)
-      go (x ∷ []) h e = e ∙ sym (lower-nothing (alone (test x) k)) ∙ alone-first (test x) k Nothing
+      go (x ∷ []) h e = e ∙ sym (lower-nothing (alone (test x) (word k))) ∙ alone-first (test x) (word k) Nothing
       go (x ∷ y ∷ xs) h e = absurd (omega arith)
 
   -- a part `&xs[half..]` is as long a part as is left of what follows half

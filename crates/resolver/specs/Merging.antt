@@ -1,11 +1,11 @@
 -- What the parts of the scan and of the tree promise: one word by itself, and two runs of words put together.
-use Prim.Native.Nat.{ℕ}
 use mathlib.Core.Bool.{Bool, true, false}
+use Rattle.machine.specs.declared.WordSlice.{WordSlice}
 use Rattle.machine.specs.declared.Found.{Found}
 use Rattle.machine.specs.declared.Found.the-variants.{At, Nothing}
 
-abbrev pub alone : Bool → ℕ → Found
-alone true k = At (record { 0 = k })
+abbrev pub alone : Bool → WordSlice → Found
+alone true k = At k
 alone false k = Nothing
 
 -- the lower run's answer, and the upper one's where the lower has none

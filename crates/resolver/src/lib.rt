@@ -23,11 +23,11 @@ pub enum Resolved {
 }
 
 // What one word answers by itself.
-fn one_word(selected: bool, number: usize) -> Found
+fn one_word(selected: bool, number: WordSlice) -> Found
     ensures { λ r. ⌜ r ≡ alone selected number ⌝ }
 {
     if selected {
-        Found::At(WordSlice(number))
+        Found::At(number)
     } else {
         Found::Nothing
     }
@@ -50,7 +50,7 @@ pub fn lowest_selected(responses: &[Response], key: Response, care: Response) ->
     let mut found = Found::Nothing;
     let mut i: usize = 0;
     while i < responses.len() {
-        let here = one_word(is_selected(key, care, responses[i]), i);
+        let here = one_word(is_selected(key, care, responses[i]), WordSlice(i));
         found = merge(found, here);
         i += 1;
     }
@@ -58,9 +58,9 @@ pub fn lowest_selected(responses: &[Response], key: Response, care: Response) ->
 }
 
 // "the tree halves the words until one is left": base is the number of the first word of this part.
-fn tree(responses: &[Response], key: Response, care: Response, base: usize) -> Found
-    requires { ⌜ base + length (now responses) ≤ 1024 ⌝ }
-    ensures { λ r. ⌜ r ≡ lowest (selected key care) base (now (responses .entry)) ⌝ }
+fn tree(responses: &[Response], key: Response, care: Response, base: WordSlice) -> Found
+    requires { ⌜ base .0 + length (now responses) ≤ 1024 ⌝ }
+    ensures { λ r. ⌜ r ≡ lowest (selected key care) (base .0) (now (responses .entry)) ⌝ }
 {
     let n = responses.len();
     if n == 0 {
@@ -71,7 +71,8 @@ fn tree(responses: &[Response], key: Response, care: Response, base: usize) -> F
     }
     let half = n / 2;
     let lower = tree(&responses[..half], key, care, base);
-    let upper = tree(&responses[half..], key, care, base + half);
+    let above = base.0 + half;
+    let upper = tree(&responses[half..], key, care, WordSlice(above));
     merge(lower, upper)
 }
 
@@ -115,6 +116,6 @@ pub fn network(
     let check = machine::check_machine(words, responses, width);
     match check {
         Check::Refused(why) => Resolved::Refused(why),
-        Check::Passed => as_resolved(tree(responses, key, care, 0)),
+        Check::Passed => as_resolved(tree(responses, key, care, WordSlice(0))),
     }
 }

@@ -56,7 +56,7 @@ tree-one-word-requires t c κs = search needs
 tree-returns-2 : (t : ℕ) → tree-lts.Need-returns-2 (callees t) (tree-at t) tree.Post
 tree-returns-2 t c =
     let a = c .before .before .before .before .before .before .args in
-    one-word _ (a .base) (a .responses .now) (c .one-word .result) (c .before .before .before .if2 .taken)
+    one-word _ (a .base .0) (a .responses .now) (c .one-word .result) (c .before .before .before .if2 .taken)
     (c .one-word .ensures ∙ ap (λ b. alone b (a .base)) (c .before .is-selected .ensures))
 
 tree-slice-aggregate-tree : (t : ℕ) → tree-lts.Need-slice-aggregate-tree (callees t) (tree-at t) tree.Post
@@ -68,6 +68,9 @@ tree-tree-requires t c κs =
     let e : length (take (length r / 2) r) ≡ length r / 2 = length-take-le (length r / 2) r (omega arith) in
     (omega (arith, e), omega (arith, e))
 
+tree-add-above : (t : ℕ) → tree-lts.Need-add-above (callees t) (tree-at t) tree.Post
+tree-add-above t c = search needs
+
 tree-sub-tree : (t : ℕ) → tree-lts.Need-sub-tree (callees t) (tree-at t) tree.Post
 tree-sub-tree t c = search needs
 
@@ -77,9 +80,6 @@ tree-part-tree-start t c = search needs
 tree-part-tree-end : (t : ℕ) → tree-lts.Need-part-tree-end (callees t) (tree-at t) tree.Post
 tree-part-tree-end t c = search needs
 
-tree-add-tree : (t : ℕ) → tree-lts.Need-add-tree (callees t) (tree-at t) tree.Post
-tree-add-tree t c = search needs
-
 tree-tree-requires-2 : (t : ℕ) → tree-lts.Need-tree-requires-2 (callees t) (tree-at t) tree.Post
 tree-tree-requires-2 t c κs = search needs
 
@@ -88,11 +88,11 @@ tree-merge-requires t c κs = search needs
 
 tree-returns-3 : (t : ℕ) → tree-lts.Need-returns-3 (callees t) (tree-at t) tree.Post
 tree-returns-3 t c =
-    let a = c .before .before .before .before .before .before .before .before .args in
+    let a = c .before .before .before .before .before .before .before .before .before .args in
     let r = a .responses .now in
     let h : length r / 2 ≤ length r = omega arith in
-    two-halves _ (a .base) r (length r / 2) (c .merge .result) (c .before .before .before .tree .result) (c .before .tree2 .result) h
-    (c .before .before .before .tree .ensures) (c .before .tree2 .ensures) (c .merge .ensures)
+    two-halves _ (a .base .0) r (length r / 2) (c .merge .result) (c .before .before .before .before .tree .result) (c .before .tree2 .result) h
+    (c .before .before .before .before .tree .ensures) (c .before .tree2 .ensures) (c .merge .ensures)
 
 pub +tree-spec : {M : Type 1} → statement M
 +tree-spec = close μ-tree λ t. tree-lts.spec (callees t) (tree-at t) tree.Post
@@ -103,10 +103,10 @@ pub +tree-spec : {M : Type 1} → statement M
     (tree-returns-2 t)
     (tree-slice-aggregate-tree t)
     (tree-tree-requires t)
+    (tree-add-above t)
     (tree-sub-tree t)
     (tree-part-tree-start t)
     (tree-part-tree-end t)
-    (tree-add-tree t)
     (tree-tree-requires-2 t)
     (tree-merge-requires t)
     (tree-returns-3 t)

@@ -7,7 +7,7 @@ use Rattle.machine.specs.declared.Found.{Found}
 use Rattle.machine.specs.Machine.{selected}
 use Rattle.machine.specs.Resolution.{lowest}
 use Rattle.resolver.specs.Merging.{alone, lowerOf}
-use Rattle.resolver.proofs.Merging.{scan-step, scan-end}
+use Rattle.resolver.proofs.Merging.{word, scan-step, scan-end}
 use Rattle.resolver.proofs.lowest_selected.Statement.{statement}
 use Rattle.resolver.proofs.lowest_selected.Tie as tie
 
@@ -47,7 +47,7 @@ loop-again c =
       search needs,
       ap (λ (f : Found). lowerOf f (lowest test (l .loop .i + 1) (drop (l .loop .i + 1) (a .responses .now)))) (c .merge .ensures)
           ∙ scan-step test (a .responses .now) (l .loop .found) (c .before .one-word .result) (l .loop .i) (search needs)
-          (c .before .one-word .ensures ∙ ap (λ t. alone t (l .loop .i)) (c .before .before .is-selected .ensures))
+          (c .before .one-word .ensures ∙ ap (λ t. alone t (word (l .loop .i))) (c .before .before .is-selected .ensures))
           ∙ l .loop .inv .1,
     )
 

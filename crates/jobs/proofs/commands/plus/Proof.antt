@@ -12,17 +12,11 @@ cast-comp c = search needs
 shl-comp : tie.Need-shl-comp
 shl-comp c = search needs
 
-add-top : tie.Need-add-top
-add-top c = search needs
+sub-bit-of : tie.Need-sub-bit-of
+sub-bit-of c = search needs
 
-sub-top : tie.Need-sub-top
-sub-top c = search needs
-
-cast-top : tie.Need-cast-top
-cast-top c = search needs
-
-shl-top : tie.Need-shl-top
-shl-top c = search needs
+bit-of-requires : tie.Need-bit-of-requires
+bit-of-requires c κs = search needs
 
 cast-low-bits : tie.Need-cast-low-bits
 cast-low-bits c = search needs
@@ -41,11 +35,12 @@ blank-requires c κs = search needs
 
 returns : tie.Need-returns
 returns c =
-    let t = c .before .before .before .before .before in
-    let u = c .before .before .before .before .response-bit in
+    let t = c .before .before .before .before .before .before in
+    let u = c .before .before .before .before .before .response-bit in
+    let b = c .before .before .before .bit-of in
     let l = c .before .low-bits in
     rw (c .blank .ensures)
-    (phases.plus-is (t .args .y) (u .result) (l .result) (t .args .v) (t .args .s) (t .pre .1 .0) (t .pre .1 .1) (t .pre .1 .2) (u .ensures) (l .ensures))
+    (phases.plus-is (t .args .y) (u .result) (l .result) (b .result) (t .args .v) (t .args .s) (t .pre .1 .0) (t .pre .1 .1) (t .pre .1 .2) (u .ensures) (l .ensures) (b .ensures))
 
 pub plus-spec : {M : Type 1} → statement M
 plus-spec =
@@ -54,10 +49,8 @@ plus-spec =
     response-bit-requires
     cast-comp
     shl-comp
-    add-top
-    sub-top
-    cast-top
-    shl-top
+    sub-bit-of
+    bit-of-requires
     cast-low-bits
     low-bits-requires
     cast-run
