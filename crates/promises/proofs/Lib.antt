@@ -1,8 +1,10 @@
 -- what is promised: a reader opens these files
 pub mod Answered
+pub mod Calls
 pub mod Demand1
 pub mod Demand2
 pub mod Demand3
 pub mod Figures
 pub mod Settled
+pub mod TakesAny
 pub mod Totals
