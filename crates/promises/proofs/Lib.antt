@@ -5,6 +5,7 @@ pub mod Demand1
 pub mod Demand2
 pub mod Demand3
 pub mod Figures
+pub mod Kept
 pub mod Settled
 pub mod TakesAny
 pub mod Totals
