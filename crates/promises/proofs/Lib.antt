@@ -1,9 +1,12 @@
 -- what is promised: a reader opens these files
 pub mod Adding
 pub mod Answered
+pub mod Calls
 pub mod Demand1
 pub mod Demand2
 pub mod Demand3
 pub mod Figures
+pub mod Kept
 pub mod Settled
+pub mod TakesAny
 pub mod Totals
