@@ -133,7 +133,7 @@ module _ (m : Machine) (o : Job) (accepted : Accepted m o) (typed : Typed (recor
           absurd (held-given (s .machine) (s .held) g
           (ap (λ (z : State). z .held) (w .is) ∙ ap (λ (i : ℕ). standing i .held) e ∙ course m o accepted .over))
 
-  image-kept : (k : ℕ) (s : State) (images : List Kept) (image : List ℕ) → Stands k s images → Stores s image
+  image-kept : (k : ℕ) (s : State) (images : List Kept) {output : List ℕ} (image : List ℕ) → Stands k s images → Stores output s image
       → Stands k s (record { image = image; pulses = k } ∷ images)
   image-kept k s images image w h = record { few = w .few; is = w .is; kept = λ i p. among i p }
     where
@@ -144,13 +144,14 @@ module _ (m : Machine) (o : Job) (accepted : Accepted m o) (typed : Typed (recor
       among i here = right
       among i (there p) = w .kept i p
 
-  went-back : (k : ℕ) (s t : State) (images : List Kept) (i : Kept) → Stands k s images → In i images → Resumes (i .image) t
+  went-back : (k : ℕ) (s t : State) (images : List Kept) (i : Kept) {words responses : List ℕ} → Stands k s images → In i images
+      → Resumes words responses (i .image) t
       → Stands (i .pulses) t images
   went-back k s t images i w p r =
       let h = w .kept i p in
       record {
         few = h .few;
-        is = resumed-machine (standing (i .pulses)) (storable (i .pulses) (h .few)) (rw (← (h .is)) r);
+        is = resumed-machine (standing (i .pulses)) (storable (i .pulses) (h .few)) (rw (h .is) at r);
         kept = w .kept;
       }
 
@@ -195,12 +196,12 @@ module _ (m : Machine) (o : Job) (accepted : Accepted m o) (typed : Typed (recor
         ∙ stays-over m o accepted 0
 
     -- what stands can be stored in any output that is long enough
-    pub can-be-stored : (output : List ℕ) → length (imageOf s) ≤ length output → Stores s (imageOf s)
+    pub can-be-stored : (output : List ℕ) → length (imageOf s) ≤ length output → Stores output s (imageOf s)
     can-be-stored = can-store s (rw (stands worked .is) (storable k (stands worked .few)))
 
     -- and any stored image can be resumed, into any destinations that are long enough
     pub can-be-resumed : (i : Kept) → In i images → (words responses : List ℕ) → length (m .words) ≤ length words → length (m .words) ≤ length responses
-        → Resumes (i .image) (steps (i .pulses) (begun m o))
+        → Resumes words responses (i .image) (steps (i .pulses) (begun m o))
     can-be-resumed i p words responses h g =
         let w = stands worked .kept i p in
         let l = size-kept (i .pulses) (w .few) in

@@ -26,7 +26,8 @@ pub data Worked (b : State) : ℕ → State → List Kept → Type 0 where
   begun : Worked b 0 b []
   gave : {k : ℕ} {s : State} {images : List Kept} {c : Command} {n : ℕ} {h : Held} → Worked b k s images
       → stepOf (s .machine) (s .held) ≡ answer.Gave c n h → Worked b (suc k) (stepped s) images
-  stored : {k : ℕ} {s : State} {images : List Kept} {image : List ℕ} → Worked b k s images → Stores s image
+  stored : {k : ℕ} {s : State} {images : List Kept} {output image : List ℕ} → Worked b k s images → Stores output s image
       → Worked b k s (record { image = image; pulses = k } ∷ images)
-  resumed : {k : ℕ} {s t : State} {images : List Kept} {i : Kept} → Worked b k s images → In i images → Resumes (i .image) t
+  resumed : {k : ℕ} {s t : State} {images : List Kept} {i : Kept} {words responses : List ℕ} → Worked b k s images → In i images
+      → Resumes words responses (i .image) t
       → Worked b (i .pulses) t images

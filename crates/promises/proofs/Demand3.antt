@@ -151,11 +151,11 @@ module _ (m : Machine) (o : Job) (accepted : Accepted m o) (typed : Typed (recor
   pub step-gives : k < pulses m (first o) → Gives s
   step-gives = goes-on m o accepted typed worked
 
-  pub can-be-stored : (output : List ℕ) → length (imageOf s) ≤ length output → Stores s (imageOf s)
+  pub can-be-stored : (output : List ℕ) → length (imageOf s) ≤ length output → Stores output s (imageOf s)
   can-be-stored = over-stops.can-be-stored m o accepted typed worked
 
   pub can-be-resumed : (i : Kept) → In i images → (words responses : List ℕ) → length (m .words) ≤ length words → length (m .words) ≤ length responses
-      → Resumes (i .image) (steps (i .pulses) (begun m o))
+      → Resumes words responses (i .image) (steps (i .pulses) (begun m o))
   can-be-resumed = over-stops.can-be-resumed m o accepted typed worked
 
   pub rest-leads-there : steps (pulses m (first o) - k) s ≡ record { machine = ended m o; held = Nothing }
@@ -244,7 +244,7 @@ module _ (x f : ResponseBit) (b : State) (fine : roundCheck x f (b .machine) ≡
   module _ {s : State} {image : List ℕ} {phase : Phase} {vs : List Verdict} {book : List Entry} (hosted : Hosted x f b s image phase vs book) where
     -- "From an older image the round is the one that stood then": wherever the round went on to after `hosted`, from the image that was the last
     -- there it shows the responder that was the next then
-    pub from-older-image : {t : State} → Resumes image t → (k : ℕ) → Responder x (b .machine) k → lower x (b .machine) k ≡ length vs
+    pub from-older-image : {words responses : List ℕ} {t : State} → Resumes words responses image t → (k : ℕ) → Responder x (b .machine) k → lower x (b .machine) k ≡ length vs
         → showOf x (t .machine) ≡ resolved.At (record { 0 = k })
     from-older-image resumes = next-is-shown (stops hosted resumes)
 
@@ -256,11 +256,11 @@ module _ (x f : ResponseBit) (b : State) (fine : roundCheck x f (b .machine) ≡
     never-skipped = none-skipped x f b fine typed hosted
 
     -- what stands can always be stored, and the last stored image resumed
-    pub can-store-round : (output : List ℕ) → length (imageOf s) ≤ length output → Stores s (imageOf s)
+    pub can-store-round : (output : List ℕ) → length (imageOf s) ≤ length output → Stores output s (imageOf s)
     can-store-round = storable-round x f b fine typed hosted
 
     pub can-resume-round : (words responses : List ℕ) → length (b .machine .words) ≤ length words → length (b .machine .words) ≤ length responses
-        → (t : State) × Resumes image t
+        → (t : State) × Resumes words responses image t
     can-resume-round = resumable x f b fine typed hosted
 
 -- ---- which calls leave X and F alone: pulses whose target has neither, or that raise neither search nor complement; steps of jobs that work on
