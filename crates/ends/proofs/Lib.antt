@@ -21,6 +21,7 @@ pub mod ScaledAdd
 pub mod ProductPlaces
 pub mod Pairs
 pub mod ProductSums
+pub mod Orders
 pub mod Product
 -- greatest and smallest
 pub mod Narrowing

@@ -10,19 +10,19 @@ use Rattle.laws.proofs.Digits.{tri}
 use Rattle.machine.specs.declared.Check.{Check}
 use Rattle.machine.specs.declared.Check.the-variants as check
 use Rattle.machine.specs.Machine.{Machine}
-use Rattle.machine.specs.Refusals.{_else_, machineCheck, answerBy}
+use Rattle.machine.specs.Refusals.{_else_, machineCheck}
 use Rattle.machine.proofs.Refusals.{sound, else-passed}
 use Rattle.job_plans.specs.declared.Job.{Job}
 use Rattle.job_plans.specs.declared.Held.{Held}
 use Rattle.job_plans.specs.declared.Held.the-variants.{Nothing, Holds}
 use Rattle.job_plans.specs.declared.Command.{Command}
 use Rattle.jobs.specs.declared.Stepped.the-variants as answer
-use Rattle.job_plans.specs.Places.{heldCheck, noneHeld, stepHeldCheck, first}
-use Rattle.jobs.specs.Calls.{stepCheck, gave, stepOf}
+use Rattle.job_plans.specs.Places.{heldCheck, stepHeldCheck, first}
+use Rattle.jobs.specs.Calls.{stepCheck, stepOf}
 use Rattle.job_tally.specs.Totals.{pulses}
 use Rattle.jobs.specs.Runs.{State, stepped, steps}
-use Rattle.ends.specs.Ends.{Accepted, begun, Gives, ended}
-use Rattle.ends.proofs.Steps.{given-passed, steps-on, steps-last}
+use Rattle.ends.specs.Ends.{Accepted, begun, Gives, commandAt, ended}
+use Rattle.ends.proofs.Steps.{left, given-passed, held-given, steps-on, steps-last}
 use Rattle.ends.proofs.Machines.{words-length}
 use Rattle.ends.proofs.Ends.{course, not-over, stays-over}
 use Rattle.image_layout.specs.Format.{imageOf}
@@ -33,15 +33,6 @@ use Rattle.hosts.specs.Stops.{Kept, In, here, there, Worked}
 use Rattle.hosts.proofs.Images.{jobCheck, stored-image, can-store, resumed-machine, can-resume}
 use Rattle.hosts.specs.Images.{Typed}
 use Rattle.hosts.proofs.Typed.{first-fits, stepped-typed}
-
--- a step while none is held gives nothing
-held-given : (m : Machine) (h : Held) {c : Command} {n : ℕ} {g : Held} → stepOf m h ≡ answer.Gave c n g → h ≡ Nothing → ⊥
-unfolding stepOf
-held-given m h e z = go (stepCheck m Nothing) (ap (λ (h : Held). answerBy (stepCheck m h) answer.Refused (gave m h)) (sym z) ∙ e)
-  where
-    go : (c : Check) {k : Command} {n : ℕ} {g : Held} → answerBy c answer.Refused (answer.Refused noneHeld) ≡ answer.Gave k n g → ⊥
-    go check.Passed e = let z : _≡_ {A = ℕ} 0 1 = cc in absurd (omega arith)
-    go (check.Refused r) e = let z : _≡_ {A = ℕ} 0 1 = cc in absurd (omega arith)
 
 steps-typed : (k : ℕ) (s : State) → Typed s → Typed (steps k s)
 unfolding steps
@@ -103,7 +94,7 @@ module _ (m : Machine) (o : Job) (accepted : Accepted m o) (typed : Typed (recor
   size-kept zero h = refl
   size-kept (suc k) h =
       ap (λ (z : State). length (z .machine .words)) (steps-last k (begun m o))
-      ∙ ap (λ (z : Machine). length (z .words)) (course m o accepted .gives k (omega arith) .pulse)
+      ∙ ap (λ (z : Machine). length (z .words)) (let g = course m o accepted .gives k (omega arith) in g .leaves ∙ left (standing k .machine) _ _ (g .accepted))
       ∙ words-length (standing k .machine) (sound (standing k .machine) (storable k (omega arith) .machine)) _ _
       ∙ size-kept k (omega arith)
 
@@ -183,7 +174,7 @@ module _ (m : Machine) (o : Job) (accepted : Accepted m o) (typed : Typed (recor
         (c, ap (λ (z : State). z .machine) (w .is) ∙ ap (λ (i : ℕ). steps i (begun m o) .machine) c)
 
     -- before it a step is not refused
-    pub goes-on : k < pulses m (first o) → Gives s
+    pub goes-on : k < pulses m (first o) → Gives (commandAt m (first o) k) s
     goes-on l = rw (stands worked .is) (course m o accepted .gives k l)
 
     -- the steps that are left lead to it

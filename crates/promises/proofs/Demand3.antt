@@ -1,7 +1,7 @@
 -- Demand 3: "A job gives one named command a step, ends in the stated arithmetic, in exactly the stated number of pulses, and survives a stop at any
 -- pulse. A hand-out round shows a responder with k lower ones after exactly k stored answers."
 use Prim.Native.Nat.{ℕ, zero, suc, _+_, _*_, _-_, _^_, _≤_, _<_, min}
-use mathlib.Core.Path.{_≡_, refl}
+use mathlib.Core.Path.{_≡_, refl, ap}
 use mathlib.Core.Bool.{true, false, _&&_}
 use native.Mathlib.Omega.{arith}
 use borrow.Author.Tests.{eq-eqb}
@@ -22,14 +22,16 @@ use Rattle.job_plans.specs.declared.Held.{Held}
 use Rattle.job_plans.specs.declared.Held.the-variants.{Nothing, Holds}
 use Rattle.job_plans.specs.declared.Command.{Command}
 use Rattle.jobs.specs.declared.Stepped.the-variants as answer
-use Rattle.jobs.specs.Calls.{stepOf, afterStep}
+use Rattle.jobs.specs.declared.Started.the-variants as started
+use Rattle.jobs.specs.Calls.{startOf, stepOf, afterStep}
 use Rattle.job_tally.specs.declared.Total.the-variants as total
 use Rattle.job_plans.specs.Fields.{Kind, greatest, smallest, scaledAdd, product, unknown, kindOf}
 use Rattle.job_plans.specs.Places.{first, firstFor, atFirst}
 use Rattle.job_tally.specs.Totals.{sumBelow, ones, zeros, valueOf, values, greatestOf, smallestOf, pulses, totalCheck, totalOf}
 use Rattle.jobs.specs.Runs.{State, stepped, steps}
-use Rattle.ends.specs.Ends.{Accepted, begun, Gives, ended, Adds, Marks}
+use Rattle.ends.specs.Ends.{Accepted, begun, Gives, commandsOf, commandAt, ended, Adds, Marks}
 use Rattle.ends.proofs.Steps.{given-passed}
+use Rattle.ends.proofs.Starts.{accepted-is, started-accepted}
 use Rattle.ends.proofs.Ends.{course, not-over, stays-over}
 use Rattle.ends.proofs.Greatest.{greatest-pulses, greatest-ends}
 use Rattle.ends.proofs.Smallest.{smallest-pulses, smallest-ends}
@@ -67,12 +69,23 @@ at-first o = go (kindOf (o .kind)) refl
     go product e = rw e
     go unknown e = rw (e, eq-eqb (o .phase) (o .phase) refl, eq-eqb (o .i) (o .i) refl, eq-eqb (o .j) (o .j) refl)
 
--- ---- jobs: for any machine m and any job o whose start is accepted (`Accepted m o`)
+-- ---- jobs: for any machine m, whatever was held, and any job o whose start is accepted
 
-module _ (m : Machine) (o : Job) (accepted : Accepted m o) where
-  -- "A job step answers the command it gave, and the machine after it is that command's pulse": each step before the end (`Gives`)
-  pub one-command-a-step : (k : ℕ) → k < pulses m (first o) → Gives (steps k (begun m o))
+module _ (m : Machine) (h : Held) (o q : Job) (start : startOf m h o ≡ started.Holds q) where
+  accepted : Accepted m o
+  accepted = started-accepted m h o q start
+
+  -- the start finds no job held, and what is held then is the job at its first place: `begun m o` stands
+  pub start-begins : (h ≡ Nothing) × (record { machine = m; held = Holds q } ≡ begun m o)
+  start-begins = let e = accepted-is m h o q start in (e .0, ap (λ (z : Job). record { machine = m; held = Holds z }) (e .1))
+
+  -- "A job step answers the command it gave, and the machine after it is that command's pulse" (`Gives`): step k gives the k-th of the job's
+  -- commands in the table's order (`commandsOf`), and they are as many as the stated pulses
+  pub one-command-a-step : (k : ℕ) → k < pulses m (first o) → Gives (commandAt m (first o) k) (steps k (begun m o))
   one-command-a-step = course m o accepted .gives
+
+  pub as-many-commands : length (commandsOf m (first o)) ≡ pulses m (first o)
+  as-many-commands = course m o accepted .many
 
   -- over after exactly the stated number of pulses, and not before
   pub over-at-last : steps (pulses m (first o)) (begun m o) .held ≡ Nothing
@@ -129,37 +142,40 @@ module _ (m : Machine) (o : Job) (accepted : Accepted m o) where
 -- ---- jobs over stops: `Worked (begun m o) k s images` says that after the start the host has given steps, stored images and resumed from any of them,
 -- in any order and number, and that s stands now with k pulses behind it. `Typed` says what the buffers' types say: responses are bytes, c has 64 bits
 
-module _ (m : Machine) (o : Job) (accepted : Accepted m o) (typed : Typed (record { machine = m; held = Holds o })) {k : ℕ} {s : State}
-    {images : List Kept} (worked : Worked (begun m o) k s images) where
+module _ (m : Machine) (h : Held) (o q : Job) (start : startOf m h o ≡ started.Holds q) (typed : Typed (record { machine = m; held = Holds o })) {k : ℕ}
+    {s : State} {images : List Kept} (worked : Worked (begun m o) k s images) where
+  taken : Accepted m o
+  taken = started-accepted m h o q start
+
   -- a stop changes nothing: what stands is what k steps alone leave
   pub stops-change-nothing : s ≡ steps k (begun m o)
-  stops-change-nothing = as-without-stops m o accepted typed worked
+  stops-change-nothing = as-without-stops m o taken typed worked
 
   -- the end and the total number of pulses are those without stops
   pub same-end : s .held ≡ Nothing → (k ≡ pulses m (first o)) × (s .machine ≡ ended m o)
-  same-end = over-stops.same-end m o accepted typed worked
+  same-end = over-stops.same-end m o taken typed worked
 
   -- an adding job is never added twice
   pub scaled-added-once : kindOf (o .kind) ≡ scaledAdd → s .held ≡ Nothing → Adds o (λ w. o .c * valueOf (o .a) w) m (s .machine)
-  scaled-added-once e h = rw (same-end h .1) (scaled-added m o accepted e)
+  scaled-added-once e over = rw (same-end over .1) (scaled-added m h o q start e)
 
   pub product-added-once : kindOf (o .kind) ≡ product → s .held ≡ Nothing → Adds o (λ w. valueOf (o .a) w * valueOf (o .b) w) m (s .machine)
-  product-added-once e h = rw (same-end h .1) (product-added m o accepted e)
+  product-added-once e over = rw (same-end over .1) (product-added m h o q start e)
 
   -- and the job can always go on: before the end a step gives its command, what stands can be stored, each stored image can be resumed into any
   -- destinations that are long enough, and the pulses that are left lead to the end
-  pub step-gives : k < pulses m (first o) → Gives s
-  step-gives = goes-on m o accepted typed worked
+  pub step-gives : k < pulses m (first o) → Gives (commandAt m (first o) k) s
+  step-gives = goes-on m o taken typed worked
 
   pub can-be-stored : (output : List ℕ) → length (imageOf s) ≤ length output → Stores output s (imageOf s)
-  can-be-stored = over-stops.can-be-stored m o accepted typed worked
+  can-be-stored = over-stops.can-be-stored m o taken typed worked
 
   pub can-be-resumed : (i : Kept) → In i images → (words responses : List ℕ) → length (m .words) ≤ length words → length (m .words) ≤ length responses
       → Resumes words responses (i .image) (steps (i .pulses) (begun m o))
-  can-be-resumed = over-stops.can-be-resumed m o accepted typed worked
+  can-be-resumed = over-stops.can-be-resumed m o taken typed worked
 
   pub rest-leads-there : steps (pulses m (first o) - k) s ≡ record { machine = ended m o; held = Nothing }
-  rest-leads-there = rest-ends m o accepted typed worked
+  rest-leads-there = rest-ends m o taken typed worked
 
 -- ---- rounds: show and answer alone
 
