@@ -46,11 +46,11 @@ use Rattle.rounds.specs.Round.{Fit}
 use Rattle.rounds.proofs.Handout.{handed-out}
 use Rattle.image_layout.specs.Format.{imageOf}
 use Rattle.hosts.specs.Images.{Stores, Resumes}
-use Rattle.hosts.specs.Stops.{Kept, In, Worked}
+use Rattle.hosts.specs.Stops.{Kept, In, Worked, NothingLost}
 use Rattle.hosts.specs.Rounds.{Responder, lower, Leaves, Apart, Phase, ready, showing, Entry, Hosted, stops, Orderly, Shown}
 use Rattle.hosts.specs.Images.{Typed}
 use Rattle.hosts.proofs.Jobs as over-stops
-use Rattle.hosts.proofs.Jobs.{as-without-stops, goes-on, rest-ends}
+use Rattle.hosts.proofs.Jobs.{one-stop, as-without-stops, no-fewer, goes-on, rest-ends}
 use Rattle.hosts.proofs.Rounds.{was-next, answerable, taken-is-shown, is-next, ends, over, faulty-has, done-has, others-have, in-order, none-skipped, storable-round, resumable}
 use Rattle.hosts.proofs.Leaving.{target-spares, lines-spare, step-spares, all-left}
 
@@ -139,11 +139,21 @@ module _ (m : Machine) (h : Held) (o q : Job) (start : startOf m h o ≡ started
   unfolding totalOf totalCheck steps
   total-is-taken = rw (given-passed (begun m o) (one-command-a-step 0 (some-pulse (pulses m (first o)) refl)), at-first o)
 
--- ---- jobs over stops: `Worked (begun m o) k s images` says that after the start the host has given steps, stored images and resumed from any of them,
--- in any order and number, and that s stands now with k pulses behind it. `Typed` says what the buffers' types say: responses are bytes, c has 64 bits
+-- ---- jobs over stops. `Typed` says what the buffers' types say: responses are bytes, c has 64 bits
 
-module _ (m : Machine) (h : Held) (o q : Job) (start : startOf m h o ≡ started.Holds q) (typed : Typed (record { machine = m; held = Holds o })) {k : ℕ}
-    {s : State} {images : List Kept} (worked : Worked (begun m o) k s images) where
+-- stop after any pulse, resume from the image stored then, and the end and the total are the same: stored after k pulses, with so many more to go,
+-- the job that is resumed gives exactly so many more, and the machine is then the one without a stop
+pub stop-after-any-pulse : (m : Machine) (h : Held) (o q : Job) → startOf m h o ≡ started.Holds q → Typed (record { machine = m; held = Holds o })
+    → (k more : ℕ) → k + more ≡ pulses m (first o) → {output words responses image : List ℕ} {t : State}
+    → Stores output (steps k (begun m o)) image → Resumes words responses image t
+    → ((j : ℕ) → j < more → steps j t .held ≡ Nothing → ⊥) × (steps more t ≡ record { machine = ended m o; held = Nothing })
+stop-after-any-pulse m h o q start typed k more e stores resumes = one-stop m o (started-accepted m h o q start) typed k more e stores resumes
+
+-- any stops: `Worked (begun m o) k given s images` says that after the start the host has given steps, stored images and resumed from any of them,
+-- in any order and number, and that s stands now with k pulses behind it; `given` counts all steps that were really given
+
+module _ (m : Machine) (h : Held) (o q : Job) (start : startOf m h o ≡ started.Holds q) (typed : Typed (record { machine = m; held = Holds o }))
+    {k given : ℕ} {s : State} {images : List Kept} (worked : Worked (begun m o) k given s images) where
   taken : Accepted m o
   taken = started-accepted m h o q start
 
@@ -151,9 +161,16 @@ module _ (m : Machine) (h : Held) (o q : Job) (start : startOf m h o ≡ started
   pub stops-change-nothing : s ≡ steps k (begun m o)
   stops-change-nothing = as-without-stops m o taken typed worked
 
-  -- the end and the total number of pulses are those without stops
+  -- the end is the one without stops, and so is the number of pulses behind it
   pub same-end : s .held ≡ Nothing → (k ≡ pulses m (first o)) × (s .machine ≡ ended m o)
   same-end = over-stops.same-end m o taken typed worked
+
+  -- all steps given are as many if each resume was from the image stored last, with no step after it (`NothingLost`), and never fewer
+  pub same-total : NothingLost worked → s .held ≡ Nothing → given ≡ pulses m (first o)
+  same-total = over-stops.same-total m o taken typed worked
+
+  pub never-fewer : s .held ≡ Nothing → pulses m (first o) ≤ given
+  never-fewer = no-fewer m o taken typed worked
 
   -- an adding job is never added twice
   pub scaled-added-once : kindOf (o .kind) ≡ scaledAdd → s .held ≡ Nothing → Adds o (λ w. o .c * valueOf (o .a) w) m (s .machine)
