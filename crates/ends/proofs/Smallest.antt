@@ -88,7 +88,7 @@ module _ (m : Machine) (o : Job) (accepted : Accepted m o) (kind : kindOf (o .ki
   done = extreme-ends m (begins m o accepted .sound) (held o) fields (wanted smallest o) mirror (all-ones - bottom) (plan (m .width) o smallest least kind used) best
 
   -- "(of zeros in the smallest)"
-  zeros-are : zeros (o .a .width) bottom ≡ ones (o .a .width) (all-ones - bottom)
+  pub zeros-are : zeros (o .a .width) bottom ≡ ones (o .a .width) (all-ones - bottom)
   zeros-are = sum-like (o .a .width) _ _ (λ i l. sym (not-bit (o .a .width) bottom i (omega (arith, low-top, pow-pos (o .a .width))) l))
 
   -- "1+a plus, if any word is selected, the number of ones in the greatest syllable (of zeros in the smallest)"

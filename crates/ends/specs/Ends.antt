@@ -103,6 +103,28 @@ pub record Course (m : Machine) (o : Job) : Type 0 where
   pub over : steps (pulses m (first o)) (begun m o) .held ≡ Nothing
   pub passes : machineCheck (ended m o) ≡ check.Passed
 
+-- ---- "the greatest syllable", "the smallest", where any word is selected
+
+-- v is A's value in a selected word, and in no selected word it is greater
+pub record IsGreatest (o : Job) (m : Machine) (v : ℕ) : Type 0 where
+  pub at : ℕ
+  pub within : at < length (m .words)
+  pub selected : chosen m o at ≡ true
+  pub value : valueOf (o .a) (word m at) ≡ v
+  pub bounds : (k : ℕ) → k < length (m .words) → chosen m o k ≡ true → valueOf (o .a) (word m k) ≤ v
+
+-- v is A's value in a selected word, and in no selected word it is smaller
+pub record IsSmallest (o : Job) (m : Machine) (v : ℕ) : Type 0 where
+  pub at : ℕ
+  pub within : at < length (m .words)
+  pub selected : chosen m o at ≡ true
+  pub value : valueOf (o .a) (word m at) ≡ v
+  pub bounds : (k : ℕ) → k < length (m .words) → chosen m o k ≡ true → v ≤ valueOf (o .a) (word m k)
+
+-- no word is selected
+abbrev pub NoneChosen : Job → Machine → Type 0
+NoneChosen o m = (k : ℕ) → k < length (m .words) → chosen m o k ≡ false
+
 -- ---- the ends: m is the machine at the start, e at the end
 
 -- nothing is added or lost

@@ -29,12 +29,13 @@ use Rattle.job_plans.specs.Fields.{Kind, greatest, smallest, scaledAdd, product
 use Rattle.job_plans.specs.Places.{first, firstFor, atFirst}
 use Rattle.job_tally.specs.Totals.{sumBelow, ones, zeros, valueOf, values, greatestOf, smallestOf, pulses, totalCheck, totalOf}
 use Rattle.jobs.specs.Runs.{State, stepped, steps}
-use Rattle.ends.specs.Ends.{Accepted, begun, Gives, commandsOf, commandAt, ended, Adds, Marks}
+use Rattle.ends.specs.Ends.{Accepted, begun, chosen, Gives, commandsOf, commandAt, ended, IsGreatest, IsSmallest, NoneChosen, Adds, Marks}
 use Rattle.ends.proofs.Steps.{given-passed}
 use Rattle.ends.proofs.Starts.{accepted-is, started-accepted}
 use Rattle.ends.proofs.Ends.{course, not-over, stays-over}
 use Rattle.ends.proofs.Greatest.{greatest-pulses, greatest-ends}
 use Rattle.ends.proofs.Smallest.{smallest-pulses, smallest-ends}
+use Rattle.ends.proofs.Cases.{some-greatest, greatest-some, some-smallest, smallest-some, greatest-none, smallest-none, same-greatest, same-smallest, same-scaled-add, same-product}
 use Rattle.ends.proofs.ScaledAdd.{scaled-add-pulses, scaled-add-ends}
 use Rattle.ends.proofs.Product.{product-pulses, product-ends}
 use Rattle.rounds.specs.declared.Verdict.{Verdict}
@@ -106,6 +107,16 @@ module _ (m : Machine) (h : Held) (o q : Job) (start : startOf m h o ≡ started
       → pulses m (first o) ≡ 1 + o .a .width + ones (o .a .width) (greatestOf (values o (m .words) (m .responses)))
   greatest-takes = greatest-pulses m o accepted
 
+  -- "1+a plus, if any word is selected, the number of ones in the greatest syllable": case by case
+  pub greatest-takes-ones : kindOf (o .kind) ≡ greatest → (v : ℕ) → IsGreatest o m v → pulses m (first o) ≡ 1 + o .a .width + ones (o .a .width) v
+  greatest-takes-ones = greatest-some m o accepted
+
+  pub greatest-of-none-takes : kindOf (o .kind) ≡ greatest → NoneChosen o m → pulses m (first o) ≡ 1 + o .a .width
+  greatest-of-none-takes = greatest-none m o accepted
+
+  pub any-has-greatest : (k : ℕ) → k < length (m .words) → chosen m o k ≡ true → (v : ℕ) × IsGreatest o m v
+  any-has-greatest k within selected = (_, some-greatest m o accepted k within selected)
+
   -- smallest: the same with the smallest and its zeros
   pub smallest-marked : kindOf (o .kind) ≡ smallest → Marks o (smallestOf (2 ^ o .a .width - 1) (values o (m .words) (m .responses))) m (ended m o)
   smallest-marked = smallest-ends m o accepted
@@ -113,6 +124,15 @@ module _ (m : Machine) (h : Held) (o q : Job) (start : startOf m h o ≡ started
   pub smallest-takes : kindOf (o .kind) ≡ smallest
       → pulses m (first o) ≡ 1 + o .a .width + zeros (o .a .width) (smallestOf (2 ^ o .a .width - 1) (values o (m .words) (m .responses)))
   smallest-takes = smallest-pulses m o accepted
+
+  pub smallest-takes-zeros : kindOf (o .kind) ≡ smallest → (v : ℕ) → IsSmallest o m v → pulses m (first o) ≡ 1 + o .a .width + zeros (o .a .width) v
+  smallest-takes-zeros = smallest-some m o accepted
+
+  pub smallest-of-none-takes : kindOf (o .kind) ≡ smallest → NoneChosen o m → pulses m (first o) ≡ 1 + o .a .width
+  smallest-of-none-takes = smallest-none m o accepted
+
+  pub any-has-smallest : (k : ℕ) → k < length (m .words) → chosen m o k ≡ true → (v : ℕ) × IsSmallest o m v
+  any-has-smallest k within selected = (_, some-smallest m o accepted k within selected)
 
   -- scaled add: P holds P+c·A modulo 2^p in selected words, all else unchanged (`Adds`), in 2·min(a,p) pulses
   pub scaled-added : kindOf (o .kind) ≡ scaledAdd → Adds o (λ w. o .c * valueOf (o .a) w) m (ended m o)
@@ -138,6 +158,28 @@ module _ (m : Machine) (h : Held) (o q : Job) (start : startOf m h o ≡ started
   pub total-is-taken : totalOf m (Holds (first o)) ≡ total.Pulses (pulses m (first o))
   unfolding totalOf totalCheck steps
   total-is-taken = rw (given-passed (begun m o) (one-command-a-step 0 (some-pulse (pulses m (first o)) refl)), at-first o)
+
+-- ---- never from how many words there are: one job on two machines of any sizes and widths takes the same number of pulses if the selected words
+-- have the same extreme, or none is selected on either; and an adding job always
+
+module _ (m n : Machine) (g h : Held) (o p q : Job) (on-m : startOf m g o ≡ started.Holds p) (on-n : startOf n h o ≡ started.Holds q) where
+  left : Accepted m o
+  left = started-accepted m g o p on-m
+
+  right : Accepted n o
+  right = started-accepted n h o q on-n
+
+  pub same-greatest-same-pulses : kindOf (o .kind) ≡ greatest → (v : ℕ) → IsGreatest o m v → IsGreatest o n v → pulses m (first o) ≡ pulses n (first o)
+  same-greatest-same-pulses = same-greatest m n o left right
+
+  pub same-smallest-same-pulses : kindOf (o .kind) ≡ smallest → (v : ℕ) → IsSmallest o m v → IsSmallest o n v → pulses m (first o) ≡ pulses n (first o)
+  same-smallest-same-pulses = same-smallest m n o left right
+
+  pub scaled-add-same-pulses : kindOf (o .kind) ≡ scaledAdd → pulses m (first o) ≡ pulses n (first o)
+  scaled-add-same-pulses = same-scaled-add m n o left right
+
+  pub product-same-pulses : kindOf (o .kind) ≡ product → pulses m (first o) ≡ pulses n (first o)
+  product-same-pulses = same-product m n o left right
 
 -- ---- jobs over stops. `Typed` says what the buffers' types say: responses are bytes, c has 64 bits
 
