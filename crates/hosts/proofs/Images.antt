@@ -64,24 +64,23 @@ module _ (s : State) (room : ℕ) (h : writeCheck s room ≡ check.Passed) where
       ltb-false room (length (imageOf s))
       (not-refused NoRoom _ (else-passed (jobCheck (s .machine .width) (s .held)) _ (else-passed (machineCheck (s .machine)) _ h .1) .1))
 
-pub stored-image : {s : State} {image : List ℕ} → Typed s → Stores s image → Stored s × (image ≡ imageOf s)
+pub stored-image : {output : List ℕ} {s : State} {image : List ℕ} → Typed s → Stores output s image → Stored s × (image ≡ imageOf s)
 unfolding writeOf written
-stored-image {s} {image} t w =
-    let p = wrote-passed (writeCheck s (length (w .output))) _ (w .size) (w .accepted) in
-    let room = length (w .output) in (
+stored-image {output} {s} {image} t w =
+    let p = wrote-passed (writeCheck s (length output)) _ (w .size) (w .accepted) in
+    let room = length output in (
       record { machine = machine-passed s room (p .0); jobs = job-passed s room (p .0); responses = t .responses; typed = t .job },
       w .bytes
-          ∙ ap (λ (c : Check). take (w .size) (changeBy c (sets (w .output) 0 (imageOf s)) (w .output))) (p .0)
-          ∙ first-of-sets (imageOf s) (w .output) (w .size) (p .1) (room-passed s room (p .0)),
+          ∙ ap (λ (c : Check). take (w .size) (changeBy c (sets output 0 (imageOf s)) output)) (p .0)
+          ∙ first-of-sets (imageOf s) output (w .size) (p .1) (room-passed s room (p .0)),
     )
 
 -- a machine that passes the checks can be stored in any output that is long enough
-pub can-store : (s : State) → Stored s → (output : List ℕ) → length (imageOf s) ≤ length output → Stores s (imageOf s)
+pub can-store : (s : State) → Stored s → (output : List ℕ) → length (imageOf s) ≤ length output → Stores output s (imageOf s)
 unfolding writeOf written writeCheck
 can-store s t output h =
     let c : writeCheck s (length output) ≡ check.Passed = rw (t .machine, t .jobs, le-ltb (length output) (length (imageOf s)) h) in
     record {
-      output = output;
       size = length (imageOf s);
       accepted = ap (λ (c : Check). wroteBy c (length (imageOf s))) c;
       bytes =
@@ -137,30 +136,28 @@ module _ (s : State) (t : Stored s) where
   count-in = sym (length-numbers wordSize (wordsIn (imageOf s)) (drop (itemsAt wordsAt) (imageOf s))) ∙ ap (λ (z : State). length (z .machine .words)) in-image
 
   -- what is read back is the machine, its held job included
-  pub resumed-machine : {u : State} → Resumes (imageOf s) u → u ≡ s
+  pub resumed-machine : {words responses : List ℕ} {u : State} → Resumes words responses (imageOf s) u → u ≡ s
   unfolding readOf wordsRead responsesRead readCheck
-  resumed-machine {u} r =
-      let c = readCheck (imageOf s) (length (r .words)) (length (r .responses)) in
+  resumed-machine {words} {responses} {u} r =
+      let c = readCheck (imageOf s) (length words) (length responses) in
       let p = read-passed c s (ap (readBy c) (sym in-image) ∙ r .accepted) in
-      let l = long-enough (refuseBytes (scanned (imageOf s))) (wordsIn (imageOf s)) (length (r .words)) (length (r .responses)) (p .0) in
+      let l = long-enough (refuseBytes (scanned (imageOf s))) (wordsIn (imageOf s)) (length words) (length responses) (p .0) in
       r .stands
       ∙ ap (λ (z : State). record {
-        machine = machine (r .width) (take (r .size) (changeBy c (sets (r .words) 0 (z .machine .words)) (r .words))) (take (r .size) (changeBy c (sets (r .responses) 0 (z .machine .responses)) (r .responses)));
+        machine = machine (r .width) (take (r .size) (changeBy c (sets words 0 (z .machine .words)) words)) (take (r .size) (changeBy c (sets responses 0 (z .machine .responses)) responses));
         held = r .held;
       }) in-image
-      ∙ landed s (r .words) (r .responses) c (r .width) (r .size) (r .held) (p .0) (p .1) (plain s t .same) (omega (arith, l .0, count-in)) (omega (arith, l .1, count-in))
+      ∙ landed s words responses c (r .width) (r .size) (r .held) (p .0) (p .1) (plain s t .same) (omega (arith, l .0, count-in)) (omega (arith, l .1, count-in))
 
   -- into any destinations that are long enough
   pub can-resume : (words responses : List ℕ) → length (s .machine .words) ≤ length words → length (s .machine .words) ≤ length responses
-      → Resumes (imageOf s) s
+      → Resumes words responses (imageOf s) s
   unfolding readOf wordsRead responsesRead readCheck
   can-resume words responses h g =
       let n = length (s .machine .words) in
       let c = readCheck (imageOf s) (length words) (length responses) in
       let p : c ≡ check.Passed = rw (roundTrip s t .0, count-in, le-ltb (length words) n h, le-ltb (length responses) n g) in
       record {
-        words = words;
-        responses = responses;
         width = s .machine .width;
         size = n;
         held = s .held;
@@ -171,3 +168,7 @@ module _ (s : State) (t : Stored s) where
         }) in-image
             ∙ landed s words responses c (s .machine .width) n (s .held) p (record { width = refl; size = refl; held = refl }) (plain s t .same) h g);
       }
+
+-- stored, then resumed, is equal
+pub stored-then-resumed : {output words responses image : List ℕ} {s t : State} → Typed s → Stores output s image → Resumes words responses image t → t ≡ s
+stored-then-resumed {s = s} typed w r = let p = stored-image typed w in resumed-machine s (p .0) (rw (p .1) at r)

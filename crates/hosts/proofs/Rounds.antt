@@ -186,7 +186,7 @@ module _ (x f : ResponseBit) (b : State) (fine : roundCheck x f (b .machine) ≡
 
   -- what stands can be stored in any output that is long enough
   pub storable-round : {s : State} {image : List ℕ} {phase : Phase} {vs : List Verdict} {book : List Entry} → Hosted x f b s image phase vs book
-      → (output : List ℕ) → length (imageOf s) ≤ length output → Stores s (imageOf s)
+      → (output : List ℕ) → length (imageOf s) ≤ length output → Stores output s (imageOf s)
   storable-round {s} h =
       let w = standing x f b fine typed h in
       can-store s (record { machine = w .passes; jobs = w .job; responses = w .kinds .responses; typed = w .kinds .job })
@@ -196,7 +196,7 @@ module _ (x f : ResponseBit) (b : State) (fine : roundCheck x f (b .machine) ≡
 
   from-kept : {image : List ℕ} {vs : List Verdict} → Kept x f b fine typed image vs
       → (words responses : List ℕ) → length (b .machine .words) ≤ length words → length (b .machine .words) ≤ length responses
-      → (t : State) × Resumes image t
+      → (t : State) × Resumes words responses image t
   from-kept i words responses l g =
       let e = same (i .state .machine) (sound (i .state .machine) (i .stored .machine)) in
       let n : length (i .state .machine .words) ≡ length (b .machine .words) = sym e ∙ i .size ∙ first-size in
@@ -205,7 +205,7 @@ module _ (x f : ResponseBit) (b : State) (fine : roundCheck x f (b .machine) ≡
   -- the last stored image can be resumed, into any destinations that are long enough
   pub resumable : {s : State} {image : List ℕ} {phase : Phase} {vs : List Verdict} {book : List Entry} → Hosted x f b s image phase vs book
       → (words responses : List ℕ) → length (b .machine .words) ≤ length words → length (b .machine .words) ≤ length responses
-      → (t : State) × Resumes image t
+      → (t : State) × Resumes words responses image t
   resumable h words responses l g = from-kept (standing x f b fine typed h .kept) words responses l g
 
   -- ---- the book

@@ -111,7 +111,7 @@ module _ (x f : ResponseBit) (b : State) (fine : roundCheck x f (b .machine) ≡
     pub kept : Kept image vs
     pub word : (k : ℕ) → phase ≡ showing k → shown x (s .machine) ≡ found.At (record { 0 = k })
 
-  opened : (image : List ℕ) → Stores b image → Standing b image ready []
+  opened : {output : List ℕ} (image : List ℕ) → Stores output b image → Standing b image ready []
   opened image w =
       let p = stored-image typed w in
       record {
@@ -172,7 +172,7 @@ module _ (x f : ResponseBit) (b : State) (fine : roundCheck x f (b .machine) ≡
       ap (λ (z : Machine). record { machine = z; held = s .held }) (refused-nothing x f k v (s .machine) r (refused-by (answerCheck x f k (s .machine)) r h)) in
       rw e w
 
-  store-word : (s : State) (image new : List ℕ) (phase : Phase) (vs : List Verdict) → Standing s image phase vs → Stores s new
+  store-word : (s : State) {output : List ℕ} (image new : List ℕ) (phase : Phase) (vs : List Verdict) → Standing s image phase vs → Stores output s new
       → Standing s new (settled phase) (vs ++ pending phase)
   store-word s image new phase vs w h =
       let p = stored-image (w .kinds) h in
@@ -196,10 +196,11 @@ module _ (x f : ResponseBit) (b : State) (fine : roundCheck x f (b .machine) ≡
       still-shown (showing j) k e = e
       still-shown (answered v) k e = cc
 
-  stop-word : (s t : State) (image : List ℕ) (phase : Phase) (vs : List Verdict) → Standing s image phase vs → Resumes image t → Standing t image ready vs
+  stop-word : (s t : State) {words responses : List ℕ} (image : List ℕ) (phase : Phase) (vs : List Verdict) → Standing s image phase vs
+      → Resumes words responses image t → Standing t image ready vs
   stop-word s t image phase vs w r =
       let i = w .kept in
-      let e : t ≡ i .state = resumed-machine (i .state) (i .stored) (rw (← (i .is)) r) in
+      let e : t ≡ i .state = resumed-machine (i .state) (i .stored) (rw (i .is) at r) in
       rw e (record {
         passes = i .stored .machine;
         kinds = record { responses = i .stored .responses; job = i .stored .typed };

@@ -11,18 +11,15 @@ use Rattle.image.specs.declared.Wrote.the-variants as wrote
 use Rattle.image.specs.declared.Read.the-variants as read
 use Rattle.image.specs.Calls.{writeOf, written, readOf, wordsRead, responsesRead}
 
--- the host stores: writing is accepted, and the image is the first n bytes of the output, whatever that held before
-pub record Stores (s : State) (image : List ℕ) : Type 0 where
-  pub output : List ℕ
+-- the host stores into `output`: writing is accepted, and the image is the first n bytes of the output, whatever that held before
+pub record Stores (output : List ℕ) (s : State) (image : List ℕ) : Type 0 where
   pub size : ℕ
   pub accepted : writeOf s (length output) ≡ wrote.Length size
   pub bytes : image ≡ take size (written s output)
 
--- the host resumes: reading is accepted, and the machine has the width and the job answered and the first n of each destination, whatever
--- these held before
-pub record Resumes (image : List ℕ) (s : State) : Type 0 where
-  pub words : List ℕ
-  pub responses : List ℕ
+-- the host resumes into `words` and `responses`: reading is accepted, and the machine has the width and the job answered and the first n of each
+-- destination, whatever these held before
+pub record Resumes (words responses image : List ℕ) (s : State) : Type 0 where
   pub width : ℕ
   pub size : ℕ
   pub held : Held

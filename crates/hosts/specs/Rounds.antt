@@ -97,7 +97,7 @@ pub data Entry : Type 0 where
 -- the answers that are stored.
 -- "The host shows before each answer, again after a stop .. and stores an image before the first show and after each answer, before the next show"
 pub data Hosted (x f : ResponseBit) (b : State) : State → List ℕ → Phase → List Verdict → List Entry → Type 0 where
-  opens : {image : List ℕ} → Stores b image → Hosted x f b b image ready [] []
+  opens : {output image : List ℕ} → Stores output b image → Hosted x f b b image ready [] []
   shows : {s : State} {image : List ℕ} {vs : List Verdict} {book : List Entry} {k : WordSlice} → Hosted x f b s image ready vs book
       → showOf x (s .machine) ≡ resolved.At k → Hosted x f b s image (showing (k .0)) vs (shown (k .0) ∷ book)
   answers : {s : State} {image : List ℕ} {j : ℕ} {vs : List Verdict} {book : List Entry} → Hosted x f b s image (showing j) vs book
@@ -106,9 +106,9 @@ pub data Hosted (x f : ResponseBit) (b : State) : State → List ℕ → Phase �
   refused : {s : State} {image : List ℕ} {phase : Phase} {vs : List Verdict} {book : List Entry} {r : Refusal} → Hosted x f b s image phase vs book
       → (k : WordSlice) (v : Verdict) → replyOf x f k (s .machine) ≡ reply.Refused r
       → Hosted x f b (record { machine = afterAnswer x f k v (s .machine); held = s .held }) image phase vs book
-  stores : {s : State} {image new : List ℕ} {phase : Phase} {vs : List Verdict} {book : List Entry} → Hosted x f b s image phase vs book → Stores s new
+  stores : {s : State} {output image new : List ℕ} {phase : Phase} {vs : List Verdict} {book : List Entry} → Hosted x f b s image phase vs book → Stores output s new
       → Hosted x f b s new (settled phase) (vs ++ pending phase) book
-  stops : {s t : State} {image : List ℕ} {phase : Phase} {vs : List Verdict} {book : List Entry} → Hosted x f b s image phase vs book → Resumes image t
+  stops : {s t : State} {words responses image : List ℕ} {phase : Phase} {vs : List Verdict} {book : List Entry} → Hosted x f b s image phase vs book → Resumes words responses image t
       → Hosted x f b t image ready vs (stopped ∷ book)
   others : {s t : State} {image : List ℕ} {phase : Phase} {vs : List Verdict} {book : List Entry} → Hosted x f b s image phase vs book → Other s t
       → Leaves x f (s .machine) (t .machine) → Hosted x f b t image phase vs book

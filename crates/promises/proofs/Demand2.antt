@@ -37,6 +37,8 @@ use Rattle.image_layout.specs.Reading.{scanned, fieldsOf, stateIn}
 use Rattle.image_layout.specs.Format.{AreBytes}
 use Rattle.image.proofs.RoundTrip.{roundTrip, injective}
 use Rattle.image.specs.Calls.{Stored}
+use Rattle.hosts.specs.Images.{Stores, Resumes, Typed}
+use Rattle.hosts.proofs.Images.{stored-then-resumed}
 use Rattle.image.proofs.Unique.{one-image, stored-again}
 use Rattle.image.proofs.Cuts.{within, image-cut-off}
 use Rattle.image.proofs.TooMany.{too-many}
@@ -116,6 +118,10 @@ lowest-exactly = resolved-word
 
 -- ---- "An image read back is the machine stored; each machine has one image": `Stored s` says that writing does not turn s down for want of
 -- anything but room, `AreBytes` that each element is below 256
+
+-- over the two calls: what was stored (`Stores`), then resumed (`Resumes`), is equal, its held job included, whatever the buffers are
+pub stored-comes-back : {output words responses image : List ℕ} {s t : State} → Typed s → Stores output s image → Resumes words responses image t → t ≡ s
+stored-comes-back = stored-then-resumed
 
 -- what was written reads back as the same machine, its held job included
 pub read-back : (s : State) → Stored s → (scanned (imageOf s) ≡ Sound) × (stateIn (imageOf s) ≡ s)
