@@ -27,30 +27,55 @@ use Rattle.rounds.specs.Round.{roundCheck, shown, showCheck, showOf, answerChec
 use Rattle.rounds.specs.Handout.{responders, responder, response, NotAmong, firstOf}
 use Rattle.rounds.proofs.Passing.{round-parts, acceptable, accepted}
 use Rattle.rounds.specs.Round.{Fit}
-use Rattle.rounds.proofs.Responders.{first-of-rest}
+use Rattle.rounds.proofs.Responders.{first-of-rest, first-lowest}
 use Rattle.rounds.proofs.Handout.{HandedOut, handed-out}
 use Rattle.jobs.specs.Runs.{State}
 use Rattle.image_layout.specs.Format.{imageOf}
 use Rattle.hosts.specs.Images.{Stores, Resumes}
 use Rattle.hosts.specs.Rounds as events
-use Rattle.hosts.specs.Rounds.{Responder, lower, Phase, ready, showing, answered, pending, settled, Entry, Hosted, Again, Orderly, Shown}
+use Rattle.hosts.specs.Rounds.{Responder, lower, Phase, ready, showing, answered, pending, settled, Entry, Own, Hosted, Last, Again, Orderly, Shown, Finished}
 use Rattle.hosts.proofs.Images.{can-store, can-resume}
 use Rattle.hosts.specs.Images.{Typed}
 use Rattle.hosts.proofs.Shadow.{shadow-responders, shadow-shown, shadow-fault}
 use Rattle.hosts.proofs.Counting.{responder-at, responder-is, first-left, none-left, left-none}
-use Rattle.hosts.proofs.Standing.{taken-passed, none-by, fit, shade, Kept, Standing, standing}
+use Rattle.hosts.proofs.Elsewhere.{taken-passed}
+use Rattle.hosts.proofs.Standing.{shown-by, none-by, fit, shade, Kept, Standing, standing}
 
--- of a book in order: every responder with fewer lower ones than were shown stands in it
-shown-in : (x : ResponseBit) (m : Machine) {book : List Entry} {many : ℕ} → Orderly x m book many → (k : ℕ) → Responder x m k → lower x m k < many → Shown k book
+-- ---- of a book in order
+
+-- every responder with fewer lower ones than were shown stands in it, after as many stored answers
+shown-in : (x : ResponseBit) (m : Machine) {book : List Entry} {many : ℕ} → Orderly x m book many → (k : ℕ) → Responder x m k → lower x m k < many
+    → Shown k (lower x m k) book
 shown-in x m events.nothing-yet k r l = absurd (omega arith)
 shown-in x m (events.next {book} {many} {k = j} o q e) k r l = ⊎-elim (λ g. events.before (shown-in x m o k r g)) (⊎-elim here (λ g. absurd (omega arith))) (tri (lower x m k) many)
   where
-    here : lower x m k ≡ many → Shown k (events.shown j ∷ book)
+    here : lower x m k ≡ many → Shown k (lower x m k) (events.shown j many ∷ book)
     here g =
         let i : j ≡ k = sym (responder-is x m j q .1) ∙ ap (responder x m) (e ∙ sym g) ∙ responder-is x m k r .1 in
-        rw i events.last
+        rw (i, g) events.last
 shown-in x m (events.again o a) k r l = events.before (shown-in x m o k r l)
+shown-in x m (events.asking o a) k r l = events.before (shown-in x m o k r l)
 shown-in x m (events.stop o) k r l = events.before (shown-in x m o k r l)
+
+-- what was shown last stands in it
+last-in : {k n : ℕ} {book : List Entry} → Last k n book → Shown k n book
+last-in events.just-shown = events.last
+last-in (events.asked-since l) = events.last-asked
+
+again-in : {k n : ℕ} {book : List Entry} → Again k n book → Shown k n book
+again-in (events.stopped-once l) = events.before (last-in l)
+again-in (events.stopped-more a) = events.before (again-in a)
+
+-- whatever stands in it is a responder, shown after as many stored answers as it has lower ones
+in-turn : (x : ResponseBit) (m : Machine) {book : List Entry} {many : ℕ} → Orderly x m book many → (k n : ℕ) → Shown k n book
+    → Responder x m k × (lower x m k ≡ n)
+in-turn x m (events.next o r e) k n events.last = (r, e)
+in-turn x m (events.next o r e) k n (events.before s) = in-turn x m o k n s
+in-turn x m (events.again o a) k n events.last = in-turn x m o k n (again-in a)
+in-turn x m (events.again o a) k n (events.before s) = in-turn x m o k n s
+in-turn x m (events.asking o l) k n events.last-asked = in-turn x m o k n (last-in l)
+in-turn x m (events.asking o l) k n (events.before s) = in-turn x m o k n s
+in-turn x m (events.stop o) k n (events.before s) = in-turn x m o k n s
 
 one-word : (k j : WordSlice) → found.At k ≡ found.At j → k .0 ≡ j .0
 one-word k j e = cc
@@ -176,6 +201,14 @@ module _ (x f : ResponseBit) (b : State) (fine : roundCheck x f (b .machine) ≡
       let w = standing x f b fine typed h in
       ap (λ (c : Check). answerBy c reply.Refused reply.Taken) (acceptable x f (record { 0 = k }) (s .machine) (bits-fine w) (w .word k refl))
 
+  -- asked again, show gives that word again
+  pub same-again : {s : State} {image : List ℕ} {k : ℕ} {vs : List Verdict} {book : List Entry} → Hosted x f b s image (showing k) vs book
+      → showOf x (s .machine) ≡ resolved.At (record { 0 = k })
+  unfolding showOf
+  same-again {k = k} h =
+      let w = standing x f b fine typed h in
+      ap₂ (λ (c : Check) (d : Found). answerBy c resolved.Refused (asResolved d)) (show-accepted w) (w .word k refl)
+
   -- and no other word's answer is taken
   pub taken-is-shown : {s : State} {image : List ℕ} {j : ℕ} {vs : List Verdict} {book : List Entry} → Hosted x f b s image (showing j) vs book
       → (k : WordSlice) → replyOf x f k (s .machine) ≡ reply.Taken → k .0 ≡ j
@@ -213,13 +246,12 @@ module _ (x f : ResponseBit) (b : State) (fine : roundCheck x f (b .machine) ≡
   -- word k is in hand: shown last, and not stored; and, after a stop, to be shown again
   record InHand (k : ℕ) (vs : List Verdict) (book : List Entry) : Type 0 where
     pub orderly : Orderly x (b .machine) book (suc (length vs))
-    pub earlier : List Entry
-    pub top : book ≡ events.shown k ∷ earlier
+    pub top : Last k (length vs) book
     pub turn : responder x (b .machine) (length vs) ≡ k
 
   record Lost (k : ℕ) (vs : List Verdict) (book : List Entry) : Type 0 where
     pub orderly : Orderly x (b .machine) book (suc (length vs))
-    pub due : Again k book
+    pub due : Again k (length vs) book
     pub turn : responder x (b .machine) (length vs) ≡ k
 
   Booked : Phase → List Verdict → List Entry → Type 0
@@ -228,14 +260,17 @@ module _ (x f : ResponseBit) (b : State) (fine : roundCheck x f (b .machine) ≡
   Booked (answered v) vs book = (k : ℕ) × InHand k vs book
 
   book-show : (k : ℕ) (vs : List Verdict) (book : List Entry) → length vs < length (responders x (b .machine)) → responder x (b .machine) (length vs) ≡ k
-      → Booked ready vs book → InHand k vs (events.shown k ∷ book)
+      → Booked ready vs book → InHand k vs (events.shown k (length vs) ∷ book)
   unfolding Booked
   book-show k vs book l e (inl o) =
       let r = responder-at x (b .machine) (length vs) l in
-      record { orderly = events.next o (rw e at (r .0)) (rw e at (r .1)); earlier = book; top = refl; turn = e }
+      record { orderly = events.next o (rw e at (r .0)) (rw e at (r .1)); top = events.just-shown; turn = e }
   book-show k vs book l e (inr (j, p)) =
       let q : j ≡ k = sym (p .turn) ∙ e in
-      record { orderly = events.again (p .orderly) (rw q at (p .due)); earlier = book; top = refl; turn = e }
+      record { orderly = events.again (p .orderly) (rw q at (p .due)); top = events.just-shown; turn = e }
+
+  book-ask : (k : ℕ) (vs : List Verdict) (book : List Entry) → InHand k vs book → InHand k vs (events.asked k (length vs) ∷ book)
+  book-ask k vs book h = record { orderly = events.asking (h .orderly) (h .top); top = events.asked-since (h .top); turn = h .turn }
 
   book-store : (phase : Phase) (vs : List Verdict) (book : List Entry) → Booked phase vs book → Booked (settled phase) (vs ++ pending phase) book
   unfolding Booked
@@ -246,7 +281,7 @@ module _ (x f : ResponseBit) (b : State) (fine : roundCheck x f (b .machine) ≡
 
   hand-lost : (k : ℕ) (vs : List Verdict) (book : List Entry) → InHand k vs book → Lost k vs (events.stopped ∷ book)
   hand-lost k vs book h =
-      record { orderly = events.stop (h .orderly); due = rw (h .top) events.stopped-once; turn = h .turn }
+      record { orderly = events.stop (h .orderly); due = events.stopped-once (h .top); turn = h .turn }
 
   book-stop : (phase : Phase) (vs : List Verdict) (book : List Entry) → Booked phase vs book → Booked ready vs (events.stopped ∷ book)
   unfolding Booked
@@ -255,15 +290,24 @@ module _ (x f : ResponseBit) (b : State) (fine : roundCheck x f (b .machine) ≡
   book-stop (showing k) vs book h = inr (k, hand-lost k vs book h)
   book-stop (answered v) vs book (k, h) = inr (k, hand-lost k vs book h)
 
+  -- the call's own entry
+  book-own : {s t : State} {image : List ℕ} {phase next : Phase} {vs : List Verdict} {book new : List Entry} → Hosted x f b s image phase vs book
+      → Own x f vs s phase book t next new → Booked phase vs book → Booked next vs new
+  unfolding Booked showOf
+  book-own {vs = vs} {book = book} h (events.shows {k = k} e) c =
+      let p = shown-turn (standing x f b fine typed (events.owns h (events.shows {k = k} e))) in
+      book-show (k .0) vs book (p .0) (p .1) c
+  book-own {s = s} {vs = vs} {book = book} h (events.asks {j = j} {k = k} e) c =
+      let p = shown-by (showCheck x (s .machine)) (shown x (s .machine)) k e .1 in
+      let i : k .0 ≡ j = one-word k (record { 0 = j }) (sym p ∙ standing x f b fine typed h .word j refl) in
+      rw i (book-ask j vs book c)
+  book-own h (events.answers {j = j} k v e) c = (j, c)
+  book-own h (events.refused k v e) c = c
+
   booked : {s : State} {image : List ℕ} {phase : Phase} {vs : List Verdict} {book : List Entry} → Hosted x f b s image phase vs book → Booked phase vs book
   unfolding Booked
   booked (events.opens w) = inl events.nothing-yet
-  booked (events.shows {s} {image} {vs} {book} {k} h e) =
-      let g : Hosted x f b s image (showing (k .0)) vs (events.shown (k .0) ∷ book) = events.shows h e in
-      let p = shown-turn (standing x f b fine typed g) in
-      book-show (k .0) vs book (p .0) (p .1) (booked h)
-  booked (events.answers {j = j} h k v e) = (j, booked h)
-  booked (events.refused h k v e) = booked h
+  booked (events.owns h o) = book-own h o (booked h)
   booked (events.stores {phase = phase} {vs} {book} h w) = book-store phase vs book (booked h)
   booked (events.stops {phase = phase} {vs} {book} h r) = book-stop phase vs book (booked h)
   booked (events.others h o l) = booked h
@@ -285,5 +329,42 @@ module _ (x f : ResponseBit) (b : State) (fine : roundCheck x f (b .machine) ≡
 
   -- none is skipped
   pub none-skipped : {s : State} {image : List ℕ} {phase : Phase} {vs : List Verdict} {book : List Entry} → Hosted x f b s image phase vs book
-      → (k : ℕ) → Responder x (b .machine) k → lower x (b .machine) k < length vs → Shown k book
+      → (k : ℕ) → Responder x (b .machine) k → lower x (b .machine) k < length vs → Shown k (lower x (b .machine) k) book
   none-skipped h k r l = let o = in-order h in shown-in x (b .machine) (o .1 .2) k r (omega (arith, l, o .1 .0))
+
+  -- whatever stands in the book was a responder, shown after as many stored answers as it has lower ones
+  pub each-in-turn : {s : State} {image : List ℕ} {phase : Phase} {vs : List Verdict} {book : List Entry} → Hosted x f b s image phase vs book
+      → (k n : ℕ) → Shown k n book → Responder x (b .machine) k × (lower x (b .machine) k ≡ n)
+  each-in-turn h k n s = let o = in-order h in in-turn x (b .machine) (o .1 .2) k n s
+
+  -- ---- the end
+
+  module _ {s : State} {image : List ℕ} {vs : List Verdict} {book : List Entry} (h : Hosted x f b s image ready vs book) (none : showOf x (s .machine) ≡ resolved.Nothing) where
+    all-answered : length vs ≡ length (responders x (b .machine))
+    all-answered = ends h none
+
+    its-answer : (k : ℕ) → Responder x (b .machine) k → lower x (b .machine) k < length vs
+    its-answer k r = let p = responder-is x (b .machine) k r .0 in omega (arith, p, all-answered)
+
+    -- a responder by its number among them
+    numbered : (k : ℕ) → Responder x (b .machine) k → responder x (b .machine) (lower x (b .machine) k) ≡ k
+    numbered k r = responder-is x (b .machine) k r .1
+
+    none-there : (k : ℕ) → Responder x (s .machine) k → ⊥
+    unfolding showOf shown
+    none-there k r =
+        let e = none-by (showCheck x (s .machine)) (shown x (s .machine)) none in
+        let p = responder-is x (s .machine) k r .0 in
+        let z = none-left (responders x (s .machine)) 0 (sym (first-lowest x 0 (s .machine .responses)) ∙ e) in
+        absurd (omega (arith, p, z))
+
+    pub finished : Finished x f (b .machine) (s .machine) vs book
+    finished = record {
+      all-shown = λ k r. none-skipped h k r (its-answer k r);
+      only-responders = λ k i t. each-in-turn h k i t;
+      one-answer-each = all-answered;
+      faulty = λ k r e. rw (numbered k r) at (faulty-has h (lower x (b .machine) k) (its-answer k r) e);
+      done = λ k r e. rw (numbered k r) at (done-has h (lower x (b .machine) k) (its-answer k r) e);
+      elsewhere = λ k n. others-have h k (λ i l e. n (rw e at (responder-at x (b .machine) i (omega (arith, l, all-answered)) .0)));
+      none-left = none-there;
+    }
