@@ -5,19 +5,18 @@ use mathlib.Core.List.{List}
 use Rattle.machine.specs.declared.ResponseBit.{ResponseBit}
 use Rattle.machine.specs.declared.Check.the-variants.{Passed}
 use Rattle.machine.specs.Machine.{Machine}
-use Rattle.rounds.specs.declared.Verdict.{Verdict}
 use Rattle.rounds.specs.Round.{Fit, roundCheck, answerCheck, replyOf, afterAnswer}
 use Rattle.rounds.proofs.Passing.{round-fits}
 use Rattle.rounds.proofs.Handout.{refused-nothing}
 use Rattle.jobs.specs.Runs.{State}
 use Rattle.hosts.specs.Images.{Typed}
 use Rattle.hosts.specs.Rounds as events
-use Rattle.hosts.specs.Rounds.{Beside, Phase, Entry, Own, Hosted, Both}
+use Rattle.hosts.specs.Rounds.{Beside, Given, Phase, Entry, Own, Hosted, Both}
 use Rattle.hosts.proofs.Elsewhere.{answer-spares}
 use Rattle.hosts.proofs.Standing.{refused-by, standing}
 
 -- a call of a round over Y and G, seen by a round over X and F
-beside : (x f y g : ResponseBit) → Fit x f → Beside y g x → Beside y g f → {b s t : State} {image : List ℕ} {phase turn next : Phase} {vs us : List Verdict} {book log new : List Entry}
+beside : (x f y g : ResponseBit) → Fit x f → Beside y g x → Beside y g f → {b s t : State} {image : List ℕ} {phase turn next : Phase} {vs us : List Given} {book log new : List Entry}
     → Hosted x f b s image phase vs book → Own y g us s turn log t next new → Hosted x f b t image phase vs book
 unfolding replyOf
 beside x f y g fit p q h (events.shows e) = h
@@ -30,7 +29,7 @@ beside x f y g fit p q {b} {image = image} {phase = phase} {vs = vs} {book = boo
 
 module _ (x f y g : ResponseBit) (b c : State) (fine : roundCheck x f (b .machine) ≡ Passed) (also : roundCheck y g (c .machine) ≡ Passed)
     (p : Beside y g x) (q : Beside y g f) where
-  pub first-alone : {s : State} {image : List ℕ} {phase turn : Phase} {vs us : List Verdict} {book log : List Entry}
+  pub first-alone : {s : State} {image : List ℕ} {phase turn : Phase} {vs us : List Given} {book log : List Entry}
       → Both x f y g b c s image phase vs book turn us log → Hosted x f b s image phase vs book
   first-alone (events.joins h w) = events.stores h w
   first-alone (events.first-owns t o) = events.owns (first-alone t) o
@@ -45,7 +44,7 @@ module _ (x f y g : ResponseBit) (b c : State) (fine : roundCheck x f (b .machin
   g-beside : Beside x f g
   g-beside = (λ e. p .1 (sym e), λ e. q .1 (sym e))
 
-  pub second-alone : {s : State} {image : List ℕ} {phase turn : Phase} {vs us : List Verdict} {book log : List Entry}
+  pub second-alone : {s : State} {image : List ℕ} {phase turn : Phase} {vs us : List Given} {book log : List Entry}
       → Both x f y g b c s image phase vs book turn us log → Hosted y g c s image turn us log
   second-alone (events.joins h w) = events.opens w
   second-alone (events.first-owns t o) = beside y g x f (round-fits y g (c .machine) also) y-beside g-beside (second-alone t) o
@@ -55,7 +54,7 @@ module _ (x f y g : ResponseBit) (b c : State) (fine : roundCheck x f (b .machin
   second-alone (events.others-call t o l m) = events.others (second-alone t) o m
 
   -- where the second begins, responses and job are still what their types say
-  pub second-typed : Typed b → {s : State} {image : List ℕ} {phase turn : Phase} {vs us : List Verdict} {book log : List Entry}
+  pub second-typed : Typed b → {s : State} {image : List ℕ} {phase turn : Phase} {vs us : List Given} {book log : List Entry}
       → Both x f y g b c s image phase vs book turn us log → Typed c
   second-typed typed (events.joins h w) = standing x f b fine typed h .kinds
   second-typed typed (events.first-owns t o) = second-typed typed t

@@ -1,7 +1,7 @@
 -- Document 01, 'The hand-out round': a host's round, event by event, over machines and stored images.
 use Prim.Native.Nat.{ℕ, suc, _<_}
 use mathlib.Core.Path.{_≡_}
-use mathlib.Core.List.{List, [], _∷_, _++_}
+use mathlib.Core.List.{List, [], _∷_, _++_, map}
 use lib.ListN.{length, take, getD}
 use Rattle.laws.specs.Bits.{bit}
 use Rattle.machine.specs.declared.Panel.{Panel}
@@ -95,23 +95,34 @@ Beside y g b = (b .0 ≡ y .0 → ⊥) × (b .0 ≡ g .0 → ⊥)
 
 -- ---- the host
 
+-- an answer given: the word that it was for, and the verdict
+pub record Given : Type 0 where
+  pub word : ℕ
+  pub verdict : Verdict
+
+abbrev pub wordsOf : List Given → List ℕ
+wordsOf vs = map (λ (a : Given). a .word) vs
+
+abbrev pub verdictsOf : List Given → List Verdict
+verdictsOf vs = map (λ (a : Given). a .verdict) vs
+
 -- between two calls: ready to show; a word is shown; an answer is given, and not stored
 pub data Phase : Type 0 where
   ready : Phase
   showing : ℕ → Phase
-  answered : Verdict → Phase
+  answered : Given → Phase
 
 -- the answer that is given and not stored
-abbrev pub pending : Phase → List Verdict
+abbrev pub pending : Phase → List Given
 pending ready = []
 pending (showing k) = []
-pending (answered v) = v ∷ []
+pending (answered a) = a ∷ []
 
 -- once an image is stored
 abbrev pub settled : Phase → Phase
 settled ready = ready
 settled (showing k) = showing k
-settled (answered v) = ready
+settled (answered a) = ready
 
 -- the host's own book, newest first: the words shown, those shown again because the host asked again, each with the number of answers that were
 -- stored then, and the stops
@@ -122,47 +133,47 @@ pub data Entry : Type 0 where
 
 -- `Own x f vs s phase book t next new`: one call of the round's own, while the answers vs are stored: from s, phase and book to t, next and new.
 -- "The host shows before each answer"; it may ask again while a word is shown
-pub data Own (x f : ResponseBit) (vs : List Verdict) : State → Phase → List Entry → State → Phase → List Entry → Type 0 where
+pub data Own (x f : ResponseBit) (vs : List Given) : State → Phase → List Entry → State → Phase → List Entry → Type 0 where
   shows : {s : State} {book : List Entry} {k : WordSlice} → showOf x (s .machine) ≡ resolved.At k
       → Own x f vs s ready book s (showing (k .0)) (shown (k .0) (length vs) ∷ book)
   asks : {s : State} {book : List Entry} {j : ℕ} {k : WordSlice} → showOf x (s .machine) ≡ resolved.At k
       → Own x f vs s (showing j) book s (showing (k .0)) (asked (k .0) (length vs) ∷ book)
   answers : {s : State} {book : List Entry} {j : ℕ} (k : WordSlice) (v : Verdict) → replyOf x f k (s .machine) ≡ reply.Taken
-      → Own x f vs s (showing j) book (record { machine = afterAnswer x f k v (s .machine); held = s .held }) (answered v) book
+      → Own x f vs s (showing j) book (record { machine = afterAnswer x f k v (s .machine); held = s .held }) (answered (record { word = k .0; verdict = v })) book
   refused : {s : State} {book : List Entry} {phase : Phase} {r : Refusal} (k : WordSlice) (v : Verdict) → replyOf x f k (s .machine) ≡ reply.Refused r
       → Own x f vs s phase book (record { machine = afterAnswer x f k v (s .machine); held = s .held }) phase book
 
--- `Hosted x f b s image phase vs book`: a round over X and F that began at b; s stands now, `image` is the last stored, and vs are the verdicts of
--- the answers that are stored.
+-- `Hosted x f b s image phase vs book`: a round over X and F that began at b; s stands now, `image` is the last stored, and vs are the answers
+-- that are stored.
 -- "The host shows before each answer, again after a stop .. and stores an image before the first show and after each answer, before the next show"
-pub data Hosted (x f : ResponseBit) (b : State) : State → List ℕ → Phase → List Verdict → List Entry → Type 0 where
+pub data Hosted (x f : ResponseBit) (b : State) : State → List ℕ → Phase → List Given → List Entry → Type 0 where
   opens : {output image : List ℕ} → Stores output b image → Hosted x f b b image ready [] []
-  owns : {s t : State} {image : List ℕ} {phase next : Phase} {vs : List Verdict} {book new : List Entry} → Hosted x f b s image phase vs book
+  owns : {s t : State} {image : List ℕ} {phase next : Phase} {vs : List Given} {book new : List Entry} → Hosted x f b s image phase vs book
       → Own x f vs s phase book t next new → Hosted x f b t image next vs new
-  stores : {s : State} {output image new : List ℕ} {phase : Phase} {vs : List Verdict} {book : List Entry} → Hosted x f b s image phase vs book
+  stores : {s : State} {output image new : List ℕ} {phase : Phase} {vs : List Given} {book : List Entry} → Hosted x f b s image phase vs book
       → Stores output s new → Hosted x f b s new (settled phase) (vs ++ pending phase) book
-  stops : {s t : State} {words responses image : List ℕ} {phase : Phase} {vs : List Verdict} {book : List Entry} → Hosted x f b s image phase vs book
+  stops : {s t : State} {words responses image : List ℕ} {phase : Phase} {vs : List Given} {book : List Entry} → Hosted x f b s image phase vs book
       → Resumes words responses image t
       → Hosted x f b t image ready vs (stopped ∷ book)
-  others : {s t : State} {image : List ℕ} {phase : Phase} {vs : List Verdict} {book : List Entry} → Hosted x f b s image phase vs book → Other s t
+  others : {s t : State} {image : List ℕ} {phase : Phase} {vs : List Given} {book : List Entry} → Hosted x f b s image phase vs book → Other s t
       → Leaves x f (s .machine) (t .machine) → Hosted x f b t image phase vs book
 
 -- `Both x f y g b c s image phase vs book turn us log`: two rounds side by side, their calls in any order. The first, over X and F, began at b; at any
 -- point of it, c, the second began, over Y and G. From there on an image that is stored is stored for both, and a stop stops both
-pub data Both (x f y g : ResponseBit) (b c : State) : State → List ℕ → Phase → List Verdict → List Entry → Phase → List Verdict → List Entry → Type 0 where
-  joins : {output image new : List ℕ} {phase : Phase} {vs : List Verdict} {book : List Entry} → Hosted x f b c image phase vs book → Stores output c new
+pub data Both (x f y g : ResponseBit) (b c : State) : State → List ℕ → Phase → List Given → List Entry → Phase → List Given → List Entry → Type 0 where
+  joins : {output image new : List ℕ} {phase : Phase} {vs : List Given} {book : List Entry} → Hosted x f b c image phase vs book → Stores output c new
       → Both x f y g b c c new (settled phase) (vs ++ pending phase) book ready [] []
-  first-owns : {s t : State} {image : List ℕ} {phase next turn : Phase} {vs us : List Verdict} {book new log : List Entry}
+  first-owns : {s t : State} {image : List ℕ} {phase next turn : Phase} {vs us : List Given} {book new log : List Entry}
       → Both x f y g b c s image phase vs book turn us log → Own x f vs s phase book t next new → Both x f y g b c t image next vs new turn us log
-  second-owns : {s t : State} {image : List ℕ} {phase next turn : Phase} {vs us : List Verdict} {book new log : List Entry}
+  second-owns : {s t : State} {image : List ℕ} {phase next turn : Phase} {vs us : List Given} {book new log : List Entry}
       → Both x f y g b c s image phase vs book turn us log → Own y g us s turn log t next new → Both x f y g b c t image phase vs book next us new
-  both-store : {s : State} {output image new : List ℕ} {phase turn : Phase} {vs us : List Verdict} {book log : List Entry}
+  both-store : {s : State} {output image new : List ℕ} {phase turn : Phase} {vs us : List Given} {book log : List Entry}
       → Both x f y g b c s image phase vs book turn us log → Stores output s new
       → Both x f y g b c s new (settled phase) (vs ++ pending phase) book (settled turn) (us ++ pending turn) log
-  both-stop : {s t : State} {words responses image : List ℕ} {phase turn : Phase} {vs us : List Verdict} {book log : List Entry}
+  both-stop : {s t : State} {words responses image : List ℕ} {phase turn : Phase} {vs us : List Given} {book log : List Entry}
       → Both x f y g b c s image phase vs book turn us log → Resumes words responses image t
       → Both x f y g b c t image ready vs (stopped ∷ book) ready us (stopped ∷ log)
-  others-call : {s t : State} {image : List ℕ} {phase turn : Phase} {vs us : List Verdict} {book log : List Entry}
+  others-call : {s t : State} {image : List ℕ} {phase turn : Phase} {vs us : List Given} {book log : List Entry}
       → Both x f y g b c s image phase vs book turn us log → Other s t → Leaves x f (s .machine) (t .machine) → Leaves y g (s .machine) (t .machine)
       → Both x f y g b c t image phase vs book turn us log
 
@@ -195,14 +206,14 @@ pub data Shown (k n : ℕ) : List Entry → Type 0 where
 
 -- ---- a round that is through: m is the first image's machine, n the one that stands
 
-pub record Finished (x f : ResponseBit) (m n : Machine) (vs : List Verdict) (book : List Entry) : Type 0 where
+pub record Finished (x f : ResponseBit) (m n : Machine) (vs : List Given) (book : List Entry) : Type 0 where
   -- every responder is in the book, shown after exactly as many stored answers as it has lower ones; and nothing else is
   pub all-shown : (k : ℕ) → Responder x m k → Shown k (lower x m k) book
   pub only-responders : (k i : ℕ) → Shown k i book → Responder x m k × (lower x m k ≡ i)
-  -- each has one stored answer: there are as many, and the one of a responder with i lower ones is number i
-  pub one-answer-each : length vs ≡ length (responders x m)
+  -- each has exactly one stored answer: these are the responders', in rising order, so that of a responder with i lower ones is number i
+  pub one-answer-each : wordsOf vs ≡ responders x m
   -- F is 1 in the faulty ones, and elsewhere as in the first image; none has X
-  pub faulty : (k : ℕ) → Responder x m k → getD vs (lower x m k) Done ≡ Faulty → bit (response n k) (f .0) ≡ 1
-  pub done : (k : ℕ) → Responder x m k → getD vs (lower x m k) Done ≡ Done → bit (response n k) (f .0) ≡ bit (response m k) (f .0)
+  pub faulty : (k : ℕ) → Responder x m k → getD (verdictsOf vs) (lower x m k) Done ≡ Faulty → bit (response n k) (f .0) ≡ 1
+  pub done : (k : ℕ) → Responder x m k → getD (verdictsOf vs) (lower x m k) Done ≡ Done → bit (response n k) (f .0) ≡ bit (response m k) (f .0)
   pub elsewhere : (k : ℕ) → (Responder x m k → ⊥) → bit (response n k) (f .0) ≡ bit (response m k) (f .0)
   pub none-left : (k : ℕ) → Responder x n k → ⊥

@@ -3,7 +3,7 @@ use Prim.Native.Nat.{ℕ, _+_, _≤_, _<_}
 use mathlib.Core.Path.{_≡_}
 use mathlib.Core.Bool.{false}
 use mathlib.Core.List.{List}
-use lib.ListN.{length, drop, getD}
+use lib.ListN.{length, take, drop, getD}
 use Rattle.laws.specs.Bits.{bit}
 use Rattle.machine.specs.declared.Panel.{Panel}
 use Rattle.machine.specs.declared.Lines.{Lines}
@@ -30,9 +30,9 @@ use Rattle.handout.specs.declared.Report.the-variants as report
 use Rattle.handout.specs.Whole.{reportOf, afterRound}
 use Rattle.image_layout.specs.Format.{imageOf}
 use Rattle.hosts.specs.Images.{Stores, Resumes, Typed}
-use Rattle.hosts.specs.Rounds.{Responder, lower, Looks, Leaves, Apart, Beside, Phase, ready, showing, Entry, Hosted, stops, Both, Orderly, Shown, Finished}
+use Rattle.hosts.specs.Rounds.{Responder, lower, Looks, Leaves, Apart, Beside, Given, wordsOf, verdictsOf, Phase, ready, showing, Entry, Hosted, stops, Both, Orderly, Shown, Finished}
 use Rattle.hosts.proofs.Rounds as over-stops
-use Rattle.hosts.proofs.Rounds.{was-next, answerable, same-again, taken-is-shown, is-next, ends, over, faulty-has, done-has, others-have, in-order, none-skipped, each-in-turn, storable-round, resumable}
+use Rattle.hosts.proofs.Rounds.{was-next, answerable, same-again, taken-is-shown, is-next, ends, over, faulty-has, done-has, others-have, in-order, none-skipped, each-in-turn, words-in-turn, storable-round, resumable}
 use Rattle.hosts.proofs.Both.{first-alone, second-alone, second-typed}
 use Rattle.hosts.proofs.Elsewhere.{answer-spares, round-spares}
 use Rattle.hosts.proofs.Leaving.{target-spares, lines-spare, step-spares, looks-leave}
@@ -74,31 +74,31 @@ module _ {x f : ResponseBit} {before after : Machine} {vs : List Verdict} (answe
   words-unchanged = handed-out answers .words
 
 -- ---- rounds over stops: `Hosted x f b s image phase vs book` says that a round over X and F began at b and its image; by shows, answers, stores, stops
--- and other calls that leave X and F alone s stands now, `image` is the last stored, vs are the verdicts that are stored, and `book` has the words
+-- and other calls that leave X and F alone s stands now, `image` is the last stored, vs are the answers that are stored, and `book` has the words
 -- shown and the stops
 
 module _ (x f : ResponseBit) (b : State) (fine : roundCheck x f (b .machine) ≡ Passed) (typed : Typed b) where
   -- a word that is shown was a responder in the first image, with exactly as many lower ones as answers are stored
-  pub shown-was-next : {s : State} {image : List ℕ} {k : ℕ} {vs : List Verdict} {book : List Entry} → Hosted x f b s image (showing k) vs book
+  pub shown-was-next : {s : State} {image : List ℕ} {k : ℕ} {vs : List Given} {book : List Entry} → Hosted x f b s image (showing k) vs book
       → Responder x (b .machine) k × (lower x (b .machine) k ≡ length vs)
   shown-was-next = was-next x f b fine typed
 
   -- asked again, show gives that word again: after a show, and after an answer that was turned down
-  pub asked-gives-the-same : {s : State} {image : List ℕ} {k : ℕ} {vs : List Verdict} {book : List Entry} → Hosted x f b s image (showing k) vs book
+  pub asked-gives-the-same : {s : State} {image : List ℕ} {k : ℕ} {vs : List Given} {book : List Entry} → Hosted x f b s image (showing k) vs book
       → showOf x (s .machine) ≡ resolved.At (record { 0 = k })
   asked-gives-the-same = same-again x f b fine typed
 
   -- its answer is accepted, done or faulty, and no other word's is; a refused one changes nothing (Demand1, `answer-unchanged`)
-  pub shown-can-be-answered : {s : State} {image : List ℕ} {k : ℕ} {vs : List Verdict} {book : List Entry} → Hosted x f b s image (showing k) vs book
+  pub shown-can-be-answered : {s : State} {image : List ℕ} {k : ℕ} {vs : List Given} {book : List Entry} → Hosted x f b s image (showing k) vs book
       → replyOf x f (record { 0 = k }) (s .machine) ≡ reply.Taken
   shown-can-be-answered = answerable x f b fine typed
 
-  pub only-shown-can-be : {s : State} {image : List ℕ} {j : ℕ} {vs : List Verdict} {book : List Entry} → Hosted x f b s image (showing j) vs book
+  pub only-shown-can-be : {s : State} {image : List ℕ} {j : ℕ} {vs : List Given} {book : List Entry} → Hosted x f b s image (showing j) vs book
       → (k : WordSlice) → replyOf x f k (s .machine) ≡ reply.Taken → k .0 ≡ j
   only-shown-can-be = taken-is-shown x f b fine typed
 
   -- before a show: an image of vs is stored, and no answer is given that isn't
-  module _ {s : State} {image : List ℕ} {vs : List Verdict} {book : List Entry} (hosted : Hosted x f b s image ready vs book) where
+  module _ {s : State} {image : List ℕ} {vs : List Given} {book : List Entry} (hosted : Hosted x f b s image ready vs book) where
     -- a responder with k lower ones is the one shown after exactly k stored answers
     pub next-is-shown : (k : ℕ) → Responder x (b .machine) k → lower x (b .machine) k ≡ length vs → showOf x (s .machine) ≡ resolved.At (record { 0 = k })
     next-is-shown = is-next x f b fine typed hosted
@@ -111,10 +111,10 @@ module _ (x f : ResponseBit) (b : State) (fine : roundCheck x f (b .machine) ≡
     after-all-ends = over x f b fine typed hosted
 
     -- F marks exactly the ones answered faulty, and stored, among them: those answered done and all other words have it as before
-    pub faulty-have-f : (i : ℕ) → i < length vs → getD vs i Done ≡ Faulty → bit (response (s .machine) (responder x (b .machine) i)) (f .0) ≡ 1
+    pub faulty-have-f : (i : ℕ) → i < length vs → getD (verdictsOf vs) i Done ≡ Faulty → bit (response (s .machine) (responder x (b .machine) i)) (f .0) ≡ 1
     faulty-have-f = faulty-has x f b fine typed hosted
 
-    pub done-have-f-as-before : (i : ℕ) → i < length vs → getD vs i Done ≡ Done
+    pub done-have-f-as-before : (i : ℕ) → i < length vs → getD (verdictsOf vs) i Done ≡ Done
         → bit (response (s .machine) (responder x (b .machine) i)) (f .0) ≡ bit (response (b .machine) (responder x (b .machine) i)) (f .0)
     done-have-f-as-before = done-has x f b fine typed hosted
 
@@ -126,7 +126,7 @@ module _ (x f : ResponseBit) (b : State) (fine : roundCheck x f (b .machine) ≡
     pub finished : showOf x (s .machine) ≡ resolved.Nothing → Finished x f (b .machine) (s .machine) vs book
     finished = over-stops.finished x f b fine typed hosted
 
-  module _ {s : State} {image : List ℕ} {phase : Phase} {vs : List Verdict} {book : List Entry} (hosted : Hosted x f b s image phase vs book) where
+  module _ {s : State} {image : List ℕ} {phase : Phase} {vs : List Given} {book : List Entry} (hosted : Hosted x f b s image phase vs book) where
     -- every show in the book, not only the last, gave a responder after exactly as many stored answers as it has lower ones
     pub each-shown-in-turn : (k n : ℕ) → Shown k n book → Responder x (b .machine) k × (lower x (b .machine) k ≡ n)
     each-shown-in-turn = each-in-turn x f b fine typed hosted
@@ -136,6 +136,10 @@ module _ (x f : ResponseBit) (b : State) (fine : roundCheck x f (b .machine) ≡
     pub from-older-image : {words responses : List ℕ} {t : State} → Resumes words responses image t → (k : ℕ) → Responder x (b .machine) k → lower x (b .machine) k ≡ length vs
         → showOf x (t .machine) ≡ resolved.At (record { 0 = k })
     from-older-image resumes = next-is-shown (stops hosted resumes)
+
+    -- the stored answers are the lowest responders', in rising order, one each
+    pub answered-in-turn : wordsOf vs ≡ take (length vs) (responders x (b .machine))
+    answered-in-turn = words-in-turn x f b fine typed hosted
 
     -- "never skipped, at most one twice at each stop": each word shown was the next responder or, after a stop or where the host asked
     -- again, the last one again (`Orderly`)
@@ -157,7 +161,7 @@ module _ (x f : ResponseBit) (b : State) (fine : roundCheck x f (b .machine) ≡
 
 module _ (x f y g : ResponseBit) (b c : State) (fine : roundCheck x f (b .machine) ≡ Passed) (also : roundCheck y g (c .machine) ≡ Passed)
     (typed : Typed b) (x-apart : Beside y g x) (f-apart : Beside y g f) where
-  module _ {s : State} {image : List ℕ} {phase turn : Phase} {vs us : List Verdict} {book log : List Entry}
+  module _ {s : State} {image : List ℕ} {phase turn : Phase} {vs us : List Given} {book log : List Entry}
       (both : Both x f y g b c s image phase vs book turn us log) where
     -- each is a round as if alone, so that all that is said above of a round holds of both
     pub one-as-if-alone : Hosted x f b s image phase vs book
@@ -170,23 +174,23 @@ module _ (x f y g : ResponseBit) (b c : State) (fine : roundCheck x f (b .machin
     typed-there-too = second-typed x f y g b c fine also x-apart f-apart typed both
 
   -- each hands out its own responders
-  pub each-shows-its-own : {s : State} {image : List ℕ} {j k : ℕ} {vs us : List Verdict} {book log : List Entry}
+  pub each-shows-its-own : {s : State} {image : List ℕ} {j k : ℕ} {vs us : List Given} {book log : List Entry}
       → Both x f y g b c s image (showing j) vs book (showing k) us log
       → (Responder x (b .machine) j × (lower x (b .machine) j ≡ length vs)) × (Responder y (c .machine) k × (lower y (c .machine) k ≡ length us))
   each-shows-its-own both =
       (shown-was-next x f b fine typed (one-as-if-alone both), shown-was-next y g c also (typed-there-too both) (other-as-if-alone both))
 
-  pub one-shows-next : {s : State} {image : List ℕ} {turn : Phase} {vs us : List Verdict} {book log : List Entry}
+  pub one-shows-next : {s : State} {image : List ℕ} {turn : Phase} {vs us : List Given} {book log : List Entry}
       → Both x f y g b c s image ready vs book turn us log → (k : ℕ) → Responder x (b .machine) k → lower x (b .machine) k ≡ length vs
       → showOf x (s .machine) ≡ resolved.At (record { 0 = k })
   one-shows-next both = next-is-shown x f b fine typed (one-as-if-alone both)
 
-  pub other-shows-next : {s : State} {image : List ℕ} {phase : Phase} {vs us : List Verdict} {book log : List Entry}
+  pub other-shows-next : {s : State} {image : List ℕ} {phase : Phase} {vs us : List Given} {book log : List Entry}
       → Both x f y g b c s image phase vs book ready us log → (k : ℕ) → Responder y (c .machine) k → lower y (c .machine) k ≡ length us
       → showOf y (s .machine) ≡ resolved.At (record { 0 = k })
   other-shows-next both = next-is-shown y g c also (typed-there-too both) (other-as-if-alone both)
 
-  pub both-finished : {s : State} {image : List ℕ} {vs us : List Verdict} {book log : List Entry} → Both x f y g b c s image ready vs book ready us log
+  pub both-finished : {s : State} {image : List ℕ} {vs us : List Given} {book log : List Entry} → Both x f y g b c s image ready vs book ready us log
       → showOf x (s .machine) ≡ resolved.Nothing → showOf y (s .machine) ≡ resolved.Nothing
       → Finished x f (b .machine) (s .machine) vs book × Finished y g (c .machine) (s .machine) us log
   both-finished both p q =
