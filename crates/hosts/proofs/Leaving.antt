@@ -36,10 +36,11 @@ use Rattle.rounds.specs.Handout.{response}
 use Rattle.rounds.proofs.Marks.{mask-else}
 use Rattle.rounds.specs.Round.{Fit}
 use Rattle.hosts.specs.Rounds as events
-use Rattle.hosts.specs.Rounds.{Other, Leaves, ApartFor, Apart}
+use Rattle.hosts.specs.Rounds.{Looks, Other, Leaves, ApartFor, Apart}
 use Rattle.hosts.specs.Images.{Typed}
 use Rattle.hosts.proofs.Typed.{pulsed-responses, first-fits, stepped-typed}
 use Rattle.hosts.proofs.Fits.{pulsed-passes}
+use Rattle.hosts.proofs.Elsewhere.{one-answer, whole-answers, answers-pass, answers-responses}
 use Rattle.hosts.proofs.Below.{bit-below, digit-below, flip-below, either-below}
 
 -- ---- the machine that each leaves
@@ -53,19 +54,40 @@ pub accepted-step : (s : State) {k : Command} {c : ℕ} {h : Held} → stepOf (s
 unfolding stepped afterStep
 accepted-step s e = ap (λ (a : Stepped). machineAfter a (s .machine)) e
 
+-- a call that only looks changes nothing of the machine
+pub looks-nothing : {s t : State} → Looks s t → t .machine ≡ s .machine
+looks-nothing (events.shows-word y e) = refl
+looks-nothing (events.resolves key care e) = refl
+looks-nothing (events.totals e) = refl
+looks-nothing (events.starts o c e) = refl
+looks-nothing (events.writes output e) = refl
+looks-nothing (events.loads before after) = refl
+
+looks-typed : {s t : State} → Looks s t → Typed s → Typed t
+looks-typed (events.shows-word y e) t = t
+looks-typed (events.resolves key care e) t = t
+looks-typed (events.totals e) t = t
+looks-typed (events.starts {s} {q} o c a) t =
+    record { responses = t .responses; job = rw (accepted-is (s .machine) (s .held) o q a .1) (first-fits o c) }
+looks-typed (events.writes output e) t = t
+looks-typed (events.loads before after) t = t
+
 pub other-passes : {s t : State} → Other s t → machineCheck (s .machine) ≡ Passed → machineCheck (t .machine) ≡ Passed
+other-passes (events.looks l) h = rw (looks-nothing l) h
 other-passes (events.pulses {s} p l a) h = rw (accepted-pulse (s .machine) p l a) (pulsed-passes (s .machine) p l h)
-other-passes (events.starts o c a) h = h
 other-passes (events.steps {s} {k} a) h = rw (accepted-step s a) (pulsed-passes (s .machine) (k .panel) (k .lines) h)
-other-passes events.loads h = h
+other-passes (events.answers-word {s} y g k v a) h = answers-pass (one-answer y g k v (s .machine) a) h
+other-passes (events.works-round {s} y g vs a) h = answers-pass (whole-answers y g vs (s .machine) a) h
 
 pub other-typed : {s t : State} → Other s t → Typed s → Typed t
+other-typed (events.looks l) t = looks-typed l t
 other-typed (events.pulses {s} p l a) t =
     record { responses = rw (accepted-pulse (s .machine) p l a) (pulsed-responses (s .machine) p l (t .responses)); job = t .job }
-other-typed (events.starts {s} {q} o c a) t =
-    record { responses = t .responses; job = rw (accepted-is (s .machine) (s .held) o q a .1) (first-fits o c) }
 other-typed (events.steps {s} a) t = stepped-typed s t
-other-typed events.loads t = t
+other-typed (events.answers-word {s} y g k v a) t =
+    record { responses = answers-responses (one-answer y g k v (s .machine) a) (t .responses); job = t .job }
+other-typed (events.works-round {s} y g vs a) t =
+    record { responses = answers-responses (whole-answers y g vs (s .machine) a) (t .responses); job = t .job }
 
 -- ---- pulses
 
@@ -130,6 +152,9 @@ module _ (x f : ResponseBit) (m : Machine) (p : Panel) (l : Lines) (accepted : p
 -- nothing changes
 pub all-left : (x f : ResponseBit) (m : Machine) → Leaves x f m m
 all-left x f m = record { count = refl; mark = λ k h. refl; fault = λ k h. refl }
+
+pub looks-leave : (x f : ResponseBit) {s t : State} → Looks s t → Leaves x f (s .machine) (t .machine)
+looks-leave x f {s} l = rw (looks-nothing l) (all-left x f (s .machine))
 
 -- ---- steps: each command's target is a working bit of the job, or none
 

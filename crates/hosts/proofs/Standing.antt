@@ -35,24 +35,21 @@ use Rattle.image_layout.specs.Format.{imageOf, AreResponses}
 use Rattle.image.specs.Calls.{Stored}
 use Rattle.hosts.specs.Images.{Stores, Resumes}
 use Rattle.hosts.specs.Rounds as events
-use Rattle.hosts.specs.Rounds.{Other, Leaves, Phase, ready, showing, answered, pending, settled, Entry, Hosted}
+use Rattle.hosts.specs.Rounds.{Other, Leaves, Given, verdictsOf, Phase, ready, showing, answered, pending, settled, Entry, Own, Hosted}
 use Rattle.hosts.proofs.Images.{jobCheck, stored-image, resumed-machine}
 use Rattle.hosts.specs.Images.{Typed}
 use Rattle.hosts.proofs.Shadow.{shadow, shadow-shown, shadow-left, shadow-taken, shadow-after}
+use Rattle.hosts.proofs.Elsewhere.{taken-passed, set-responses, answered-fits, answered-machine}
 use Rattle.hosts.proofs.Leaving.{other-passes, other-typed}
 use Rattle.hosts.proofs.Staying.{other-job}
 
 -- ---- checks taken apart
 
-pub taken-passed : (c : Check) → answerBy c reply.Refused reply.Taken ≡ reply.Taken → c ≡ Passed
-taken-passed Passed h = refl
-taken-passed (Refused r) h = cc
-
-refused-by : (c : Check) (r : Refusal) → answerBy c reply.Refused reply.Taken ≡ reply.Refused r → c ≡ Refused r
+pub refused-by : (c : Check) (r : Refusal) → answerBy c reply.Refused reply.Taken ≡ reply.Refused r → c ≡ Refused r
 refused-by Passed r h = cc
 refused-by (Refused w) r h = cc
 
-shown-by : (c : Check) (w : Found) (k : WordSlice) → answerBy c resolved.Refused (asResolved w) ≡ resolved.At k → (c ≡ Passed) × (w ≡ found.At k)
+pub shown-by : (c : Check) (w : Found) (k : WordSlice) → answerBy c resolved.Refused (asResolved w) ≡ resolved.At k → (c ≡ Passed) × (w ≡ found.At k)
 shown-by Passed (found.At j) k h = (refl, cc)
 shown-by Passed found.Nothing k h = (refl, cc)
 shown-by (Refused r) w k h = (cc, cc)
@@ -65,25 +62,17 @@ none-by (Refused r) w h = cc
 same-word : (k j : ℕ) → showing k ≡ showing j → k ≡ j
 same-word k j e = cc
 
+-- one answer more
+verdicts-one : (vs : List Given) (a : Given) → verdictsOf (vs ++ (a ∷ [])) ≡ verdictsOf (vs ++ []) ++ (a .verdict ∷ [])
+verdicts-one [] a = refl
+verdicts-one (g ∷ vs) a = ap (λ (us : List Verdict). g .verdict ∷ us) (verdicts-one vs a)
+
 -- ---- an answer keeps what the checks look at, and responses
 
 same-machine : (n : ℕ) (ws rs qs : List ℕ) → length qs ≡ length rs → machineCheck (machine n ws qs) ≡ machineCheck (machine n ws rs)
 unfolding machineCheck
 same-machine n ws rs qs e =
     ap (λ (k : ℕ). refuse Size (badSize (length ws) k) else refuse Width (badWidth n) else refuseWord (lowest (tooWide n) 0 ws)) e
-
-answered-machine : (x f : ResponseBit) (m : Machine) (k : WordSlice) (v : Verdict) → answerCheck x f k m ≡ Passed → afterAnswer x f k v m ≡ answeredAt x f k v m
-unfolding afterAnswer
-answered-machine x f m k v p = ap (λ (c : Check). changeBy c (answeredAt x f k v m) m) p
-
-set-responses : (rs : List ℕ) (k v : ℕ) → AreResponses rs → v < 256 ^ responseSize → AreResponses (set rs k v)
-set-responses [] k v h g = tt
-set-responses (r ∷ rs) zero v h g = (g, h .1)
-set-responses (r ∷ rs) (suc k) v h g = (h .0, set-responses rs k v (h .1) g)
-
-answered-fits : (x f : ResponseBit) (v : Verdict) (r : ℕ) → round.answered x f v r < 256 ^ responseSize
-answered-fits x f Done r = put-lt x 0 r (omega arith)
-answered-fits x f Faulty r = put-lt f 1 (put x 0 r) (omega arith)
 
 module _ (x f : ResponseBit) (b : State) (fine : roundCheck x f (b .machine) ≡ Passed) (typed : Typed b) where
   pub fit : Fit x f
@@ -95,19 +84,19 @@ module _ (x f : ResponseBit) (b : State) (fine : roundCheck x f (b .machine) ≡
 
   -- ---- what every course of events keeps
 
-  pub record Kept (image : List ℕ) (vs : List Verdict) : Type 0 where
+  pub record Kept (image : List ℕ) (vs : List Given) : Type 0 where
     pub state : State
     pub is : image ≡ imageOf state
     pub stored : Stored state
     pub size : length (state .machine .responses) ≡ length (b .machine .responses)
-    pub trail : Answers x f (shade (b .machine)) vs (shade (state .machine))
+    pub trail : Answers x f (shade (b .machine)) (verdictsOf vs) (shade (state .machine))
 
-  pub record Standing (s : State) (image : List ℕ) (phase : Phase) (vs : List Verdict) : Type 0 where
+  pub record Standing (s : State) (image : List ℕ) (phase : Phase) (vs : List Given) : Type 0 where
     pub passes : machineCheck (s .machine) ≡ Passed
     pub kinds : Typed s
     pub job : jobCheck (s .machine .width) (s .held) ≡ Passed
     pub size : length (s .machine .responses) ≡ length (b .machine .responses)
-    pub trail : Answers x f (shade (b .machine)) (vs ++ pending phase) (shade (s .machine))
+    pub trail : Answers x f (shade (b .machine)) (verdictsOf (vs ++ pending phase)) (shade (s .machine))
     pub kept : Kept image vs
     pub word : (k : ℕ) → phase ≡ showing k → shown x (s .machine) ≡ found.At (record { 0 = k })
 
@@ -124,17 +113,18 @@ module _ (x f : ResponseBit) (b : State) (fine : roundCheck x f (b .machine) ≡
         word = λ k e. absurd (let z : _≡_ {A = ℕ} 0 1 = cc in omega arith);
       }
 
-  show-word : (s : State) (image : List ℕ) (vs : List Verdict) (k : WordSlice) → Standing s image ready vs → showOf x (s .machine) ≡ resolved.At k
-      → Standing s image (showing (k .0)) vs
+  -- a show where no answer waits to be stored
+  show-word : (s : State) (image : List ℕ) (vs : List Given) (phase : Phase) → pending phase ≡ [] → (k : WordSlice) → Standing s image phase vs
+      → showOf x (s .machine) ≡ resolved.At k → Standing s image (showing (k .0)) vs
   unfolding showOf
-  show-word s image vs k w h =
+  show-word s image vs phase none k w h =
       let p = shown-by (showCheck x (s .machine)) (shown x (s .machine)) k h in
       record {
         passes = w .passes;
         kinds = w .kinds;
         job = w .job;
         size = w .size;
-        trail = w .trail;
+        trail = rw none at (w .trail);
         kept = w .kept;
         word = λ j e. p .1 ∙ ap (λ (i : ℕ). found.At (record { 0 = i })) (same-word (k .0) j e);
       }
@@ -142,8 +132,8 @@ module _ (x f : ResponseBit) (b : State) (fine : roundCheck x f (b .machine) ≡
   after-answer : State → WordSlice → Verdict → State
   after-answer s k v = record { machine = afterAnswer x f k v (s .machine); held = s .held }
 
-  answer-word : (s : State) (image : List ℕ) (j : ℕ) (vs : List Verdict) (k : WordSlice) (v : Verdict) → Standing s image (showing j) vs
-      → replyOf x f k (s .machine) ≡ reply.Taken → Standing (after-answer s k v) image (answered v) vs
+  answer-word : (s : State) (image : List ℕ) (j : ℕ) (vs : List Given) (k : WordSlice) (v : Verdict) → Standing s image (showing j) vs
+      → replyOf x f k (s .machine) ≡ reply.Taken → Standing (after-answer s k v) image (answered (record { word = k .0; verdict = v })) vs
   unfolding replyOf after-answer
   answer-word s image j vs k v w h =
       let m = s .machine in
@@ -158,13 +148,13 @@ module _ (x f : ResponseBit) (b : State) (fine : roundCheck x f (b .machine) ≡
         };
         job = rw e (w .job);
         size = ap (λ (z : Machine). length (z .responses)) e ∙ length-set (m .responses) (k .0) _ ∙ w .size;
-        trail = rw (shadow-after x f fit (b .machine) fine m (w .size) k p v, ← (append-nil vs)) one;
+        trail = rw (shadow-after x f fit (b .machine) fine m (w .size) k p v, verdicts-one vs (record { word = k .0; verdict = v })) one;
         kept = w .kept;
         word = λ i q. absurd (let z : _≡_ {A = ℕ} 0 1 = cc in omega arith);
       }
 
   -- nothing changes
-  refuse-word : (s : State) (image : List ℕ) (phase : Phase) (vs : List Verdict) (k : WordSlice) (v : Verdict) (r : Refusal) → Standing s image phase vs
+  refuse-word : (s : State) (image : List ℕ) (phase : Phase) (vs : List Given) (k : WordSlice) (v : Verdict) (r : Refusal) → Standing s image phase vs
       → replyOf x f k (s .machine) ≡ reply.Refused r → Standing (after-answer s k v) image phase vs
   unfolding replyOf after-answer
   refuse-word s image phase vs k v r w h =
@@ -172,7 +162,7 @@ module _ (x f : ResponseBit) (b : State) (fine : roundCheck x f (b .machine) ≡
       ap (λ (z : Machine). record { machine = z; held = s .held }) (refused-nothing x f k v (s .machine) r (refused-by (answerCheck x f k (s .machine)) r h)) in
       rw e w
 
-  store-word : (s : State) {output : List ℕ} (image new : List ℕ) (phase : Phase) (vs : List Verdict) → Standing s image phase vs → Stores output s new
+  store-word : (s : State) {output : List ℕ} (image new : List ℕ) (phase : Phase) (vs : List Given) → Standing s image phase vs → Stores output s new
       → Standing s new (settled phase) (vs ++ pending phase)
   store-word s image new phase vs w h =
       let p = stored-image (w .kinds) h in
@@ -196,7 +186,7 @@ module _ (x f : ResponseBit) (b : State) (fine : roundCheck x f (b .machine) ≡
       still-shown (showing j) k e = e
       still-shown (answered v) k e = cc
 
-  stop-word : (s t : State) {words responses : List ℕ} (image : List ℕ) (phase : Phase) (vs : List Verdict) → Standing s image phase vs
+  stop-word : (s t : State) {words responses : List ℕ} (image : List ℕ) (phase : Phase) (vs : List Given) → Standing s image phase vs
       → Resumes words responses image t → Standing t image ready vs
   stop-word s t image phase vs w r =
       let i = w .kept in
@@ -211,7 +201,7 @@ module _ (x f : ResponseBit) (b : State) (fine : roundCheck x f (b .machine) ≡
         word = λ k q. absurd (let z : _≡_ {A = ℕ} 0 1 = cc in omega arith);
       })
 
-  other-word : (s t : State) (image : List ℕ) (phase : Phase) (vs : List Verdict) → Standing s image phase vs → Other s t
+  other-word : (s t : State) (image : List ℕ) (phase : Phase) (vs : List Given) → Standing s image phase vs → Other s t
       → Leaves x f (s .machine) (t .machine) → Standing t image phase vs
   other-word s t image phase vs w o l =
       let e = shadow-left x f fit (b .machine) (s .machine) (t .machine) l in
@@ -226,13 +216,18 @@ module _ (x f : ResponseBit) (b : State) (fine : roundCheck x f (b .machine) ≡
             sym (shadow-shown x f fit (b .machine) (t .machine)) ∙ ap (shown x) e ∙ shadow-shown x f fit (b .machine) (s .machine) ∙ w .word k q;
       }
 
-  pub standing : {s : State} {image : List ℕ} {phase : Phase} {vs : List Verdict} {book : List Entry} → Hosted x f b s image phase vs book
-      → Standing s image phase vs
+  own-word : {s t : State} {image : List ℕ} {phase next : Phase} {vs : List Given} {book new : List Entry} → Own x f vs s phase book t next new
+      → Standing s image phase vs → Standing t image next vs
   unfolding after-answer
+  own-word {image = image} {vs = vs} (events.shows {s} {k = k} e) w = show-word s image vs ready refl k w e
+  own-word {image = image} {vs = vs} (events.asks {s} {j = j} {k = k} e) w = show-word s image vs (showing j) refl k w e
+  own-word {image = image} {vs = vs} (events.answers {s} {j = j} k v e) w = answer-word s image j vs k v w e
+  own-word {image = image} {vs = vs} (events.refused {s} {phase = phase} {r = r} k v e) w = refuse-word s image phase vs k v r w e
+
+  pub standing : {s : State} {image : List ℕ} {phase : Phase} {vs : List Given} {book : List Entry} → Hosted x f b s image phase vs book
+      → Standing s image phase vs
   standing (events.opens w) = opened _ w
-  standing (events.shows {s} {image} {k = k} h e) = show-word s image _ k (standing h) e
-  standing (events.answers {s} {image} {j = j} h k v e) = answer-word s image j _ k v (standing h) e
-  standing (events.refused {s} {image} {phase = phase} {r = r} h k v e) = refuse-word s image phase _ k v r (standing h) e
-  standing (events.stores {s} {image} {phase = phase} h w) = store-word s image _ phase _ (standing h) w
-  standing (events.stops {s} {t} {image} {phase = phase} h r) = stop-word s t image phase _ (standing h) r
-  standing (events.others {s} {t} {image} {phase = phase} h o l) = other-word s t image phase _ (standing h) o l
+  standing (events.owns h o) = own-word o (standing h)
+  standing (events.stores {s} {image = image} {phase = phase} h w) = store-word s image _ phase _ (standing h) w
+  standing (events.stops {s} {t} {image = image} {phase = phase} h r) = stop-word s t image phase _ (standing h) r
+  standing (events.others {s} {t} {image = image} {phase = phase} h o l) = other-word s t image phase _ (standing h) o l

@@ -32,8 +32,9 @@ use Rattle.ends.specs.Ends.{Accepted}
 use Rattle.ends.proofs.Starts.{accepted-is}
 use Rattle.image_layout.specs.Format.{AreResponses, JobFits}
 use Rattle.hosts.specs.Rounds as events
-use Rattle.hosts.specs.Rounds.{Other}
+use Rattle.hosts.specs.Rounds.{Looks, Other}
 use Rattle.hosts.specs.Images.{Typed}
+use Rattle.hosts.proofs.Elsewhere.{one-answer, whole-answers, answers-width}
 use Rattle.hosts.proofs.Leaving.{accepted-pulse, accepted-step}
 use Rattle.hosts.proofs.Images.{jobCheck}
 use Rattle.hosts.proofs.Jobs.{alone-passed, storable}
@@ -218,8 +219,17 @@ gave-held s e b = go (stepCheck (s .machine) (s .held)) (s .held) b
     go check.Passed Nothing b = b
     go check.Passed (Holds o) b = stays (s .machine .width) o (else-passed (heldCheck (s .machine .width) o) check.Passed b .0) _
 
+looks-job : {s t : State} → Looks s t → Typed s → jobCheck (s .machine .width) (s .held) ≡ check.Passed → jobCheck (t .machine .width) (t .held) ≡ check.Passed
+looks-job (events.shows-word b e) y h = h
+looks-job (events.resolves key care e) y h = h
+looks-job (events.totals e) y h = h
+looks-job (events.starts {s} {q} o c a) y h = start-held (s .machine) (s .held) o q (y .responses) c a
+looks-job (events.writes output e) y h = h
+looks-job (events.loads before after) y h = h
+
 pub other-job : {s t : State} → Other s t → Typed s → jobCheck (s .machine .width) (s .held) ≡ check.Passed → jobCheck (t .machine .width) (t .held) ≡ check.Passed
+other-job (events.looks l) y h = looks-job l y h
 other-job (events.pulses {s} p l a) y h = rw (accepted-pulse (s .machine) p l a, pulsed-width (s .machine) p l) h
-other-job (events.starts {s} {q} o c a) y h = start-held (s .machine) (s .held) o q (y .responses) c a
 other-job (events.steps {s} {k} a) y h = rw (accepted-step s a, pulsed-width (s .machine) (k .panel) (k .lines)) (gave-held s a h)
-other-job events.loads y h = h
+other-job (events.answers-word {s} y g k v a) t h = rw (answers-width (one-answer y g k v (s .machine) a)) h
+other-job (events.works-round {s} y g vs a) t h = rw (answers-width (whole-answers y g vs (s .machine) a)) h

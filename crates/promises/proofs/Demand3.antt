@@ -1,5 +1,5 @@
--- Demand 3: "A job gives one named command a step, ends in the stated arithmetic, in exactly the stated number of pulses, and survives a stop at any
--- pulse. A hand-out round shows a responder with k lower ones after exactly k stored answers."
+-- Demand 3, jobs: "A job gives one named command a step, ends in the stated arithmetic, in exactly the stated number of pulses, and survives a stop at
+-- any pulse." Of rounds: Rounds
 use Prim.Native.Nat.{ℕ, zero, suc, _+_, _*_, _-_, _^_, _≤_, _<_, min}
 use mathlib.Core.Path.{_≡_, refl, ap}
 use mathlib.Core.Bool.{true, false, _&&_}
@@ -7,18 +7,10 @@ use native.Mathlib.Omega.{arith}
 use borrow.Author.Tests.{eq-eqb}
 use mathlib.Core.List.{List}
 use lib.Dec.{ltb, eqb}
-use lib.ListN.{length, drop, getD}
-use Rattle.laws.specs.Bits.{bit, digit}
-use Rattle.machine.specs.declared.Panel.{Panel}
-use Rattle.machine.specs.declared.Lines.{Lines}
-use Rattle.machine.specs.declared.WordSlice.{WordSlice}
-use Rattle.machine.specs.declared.ResponseBit.{ResponseBit}
-use Rattle.machine.specs.declared.Check.the-variants.{Passed}
-use Rattle.machine.specs.Machine.{Machine, responseBits}
-use Rattle.machine.specs.Refusals.{pulseCheck, after}
-use Rattle.resolver.specs.declared.Resolved.the-variants as resolved
+use lib.ListN.{length}
+use Rattle.laws.specs.Bits.{digit}
+use Rattle.machine.specs.Machine.{Machine}
 use Rattle.job_plans.specs.declared.Job.{Job}
-use Rattle.job_plans.specs.declared.Held.{Held}
 use Rattle.job_plans.specs.declared.Held.the-variants.{Nothing, Holds}
 use Rattle.job_plans.specs.declared.Command.{Command}
 use Rattle.jobs.specs.declared.Stepped.the-variants as answer
@@ -38,22 +30,12 @@ use Rattle.ends.proofs.Smallest.{smallest-pulses, smallest-ends}
 use Rattle.ends.proofs.Cases.{some-greatest, greatest-some, some-smallest, smallest-some, greatest-none, smallest-none, same-greatest, same-smallest, same-scaled-add, same-product}
 use Rattle.ends.proofs.ScaledAdd.{scaled-add-pulses, scaled-add-ends}
 use Rattle.ends.proofs.Product.{product-pulses, product-ends}
-use Rattle.rounds.specs.declared.Verdict.{Verdict}
-use Rattle.rounds.specs.declared.Verdict.the-variants.{Done, Faulty}
-use Rattle.rounds.specs.declared.Reply.the-variants as reply
-use Rattle.rounds.specs.Round.{roundCheck, shown, showOf, replyOf}
-use Rattle.rounds.specs.Handout.{responders, responder, response, NotAmong, firstOf, Answers}
-use Rattle.rounds.specs.Round.{Fit}
-use Rattle.rounds.proofs.Handout.{handed-out}
 use Rattle.image_layout.specs.Format.{imageOf}
 use Rattle.hosts.specs.Images.{Stores, Resumes}
 use Rattle.hosts.specs.Stops.{Kept, In, Worked, NothingLost}
-use Rattle.hosts.specs.Rounds.{Responder, lower, Leaves, Apart, Phase, ready, showing, Entry, Hosted, stops, Orderly, Shown}
 use Rattle.hosts.specs.Images.{Typed}
 use Rattle.hosts.proofs.Jobs as over-stops
 use Rattle.hosts.proofs.Jobs.{one-stop, as-without-stops, no-fewer, goes-on, rest-ends}
-use Rattle.hosts.proofs.Rounds.{was-next, answerable, taken-is-shown, is-next, ends, over, faulty-has, done-has, others-have, in-order, none-skipped, storable-round, resumable}
-use Rattle.hosts.proofs.Leaving.{target-spares, lines-spare, step-spares, all-left}
 
 -- a started job is at its first place
 at-first : (o : Job) → atFirst (first o) ≡ true
@@ -235,124 +217,3 @@ module _ (m : Machine) (h : Held) (o q : Job) (start : startOf m h o ≡ started
 
   pub rest-leads-there : steps (pulses m (first o) - k) s ≡ record { machine = ended m o; held = Nothing }
   rest-leads-there = rest-ends m o taken typed worked
-
--- ---- rounds: show and answer alone
-
--- after k accepted answers vs, done or faulty, from the machine `before` to the machine `after`
-module _ {x f : ResponseBit} {before after : Machine} {vs : List Verdict} (answers : Answers x f before vs after) where
-  -- the next shown is the responder with k lower ones, or none where there is none
-  pub shown-next : shown x after ≡ firstOf (drop (length vs) (responders x before))
-  shown-next = handed-out answers .next
-
-  -- exactly the lowest k responders have lost X
-  pub no-more-than-responders : length vs ≤ length (responders x before)
-  no-more-than-responders = handed-out answers .enough
-
-  pub lost-mark : (i : ℕ) → i < length vs → bit (response after (responder x before i)) (x .0) ≡ 0
-  lost-mark = handed-out answers .lost-mark
-
-  pub responders-left : responders x after ≡ drop (length vs) (responders x before)
-  responders-left = handed-out answers .left
-
-  -- faulty ones carry F, and done ones have it as before
-  pub faulty-marked : (i : ℕ) → i < length vs → getD vs i Done ≡ Faulty → bit (response after (responder x before i)) (f .0) ≡ 1
-  faulty-marked = handed-out answers .faulty-marked
-
-  pub done-unmarked : (i : ℕ) → i < length vs → getD vs i Done ≡ Done
-      → bit (response after (responder x before i)) (f .0) ≡ bit (response before (responder x before i)) (f .0)
-  done-unmarked = handed-out answers .done-unmarked
-
-  -- nothing else changes: no other word's response, no other response bit, no word
-  pub other-responses : (j : ℕ) → NotAmong (responders x before) (length vs) j → response after j ≡ response before j
-  other-responses = handed-out answers .other-words
-
-  pub other-bits : (j b : ℕ) → b < responseBits → (b ≡ x .0 → ⊥) → (b ≡ f .0 → ⊥) → bit (response after j) b ≡ bit (response before j) b
-  other-bits = handed-out answers .other-bits
-
-  pub words-unchanged : after .words ≡ before .words
-  words-unchanged = handed-out answers .words
-
--- ---- rounds over stops: `Hosted x f b s image phase vs book` says that a round over X and F began at b and its image; by shows, answers, stores, stops
--- and other calls that leave X and F alone s stands now, `image` is the last stored, vs are the verdicts that are stored, and `book` has the words
--- shown and the stops
-
-module _ (x f : ResponseBit) (b : State) (fine : roundCheck x f (b .machine) ≡ Passed) (typed : Typed b) where
-  -- a word that is shown was a responder in the first image, with exactly as many lower ones as answers are stored
-  pub shown-was-next : {s : State} {image : List ℕ} {k : ℕ} {vs : List Verdict} {book : List Entry} → Hosted x f b s image (showing k) vs book
-      → Responder x (b .machine) k × (lower x (b .machine) k ≡ length vs)
-  shown-was-next = was-next x f b fine typed
-
-  -- its answer is accepted, done or faulty, and no other word's is; a refused one changes nothing (Demand1, `answer-unchanged`)
-  pub shown-can-be-answered : {s : State} {image : List ℕ} {k : ℕ} {vs : List Verdict} {book : List Entry} → Hosted x f b s image (showing k) vs book
-      → replyOf x f (record { 0 = k }) (s .machine) ≡ reply.Taken
-  shown-can-be-answered = answerable x f b fine typed
-
-  pub only-shown-can-be : {s : State} {image : List ℕ} {j : ℕ} {vs : List Verdict} {book : List Entry} → Hosted x f b s image (showing j) vs book
-      → (k : WordSlice) → replyOf x f k (s .machine) ≡ reply.Taken → k .0 ≡ j
-  only-shown-can-be = taken-is-shown x f b fine typed
-
-  -- before a show: an image of vs is stored, and no answer is given that isn't
-  module _ {s : State} {image : List ℕ} {vs : List Verdict} {book : List Entry} (hosted : Hosted x f b s image ready vs book) where
-    -- a responder with k lower ones is the one shown after exactly k stored answers
-    pub next-is-shown : (k : ℕ) → Responder x (b .machine) k → lower x (b .machine) k ≡ length vs → showOf x (s .machine) ≡ resolved.At (record { 0 = k })
-    next-is-shown = is-next x f b fine typed hosted
-
-    -- the round ends after as many stored answers as there were responders, and only then
-    pub ends-after-all : showOf x (s .machine) ≡ resolved.Nothing → length vs ≡ length (responders x (b .machine))
-    ends-after-all = ends x f b fine typed hosted
-
-    pub after-all-ends : length vs ≡ length (responders x (b .machine)) → showOf x (s .machine) ≡ resolved.Nothing
-    after-all-ends = over x f b fine typed hosted
-
-    -- F marks exactly the ones answered faulty, and stored, among them: those answered done and all other words have it as before
-    pub faulty-have-f : (i : ℕ) → i < length vs → getD vs i Done ≡ Faulty → bit (response (s .machine) (responder x (b .machine) i)) (f .0) ≡ 1
-    faulty-have-f = faulty-has x f b fine typed hosted
-
-    pub done-have-f-as-before : (i : ℕ) → i < length vs → getD vs i Done ≡ Done
-        → bit (response (s .machine) (responder x (b .machine) i)) (f .0) ≡ bit (response (b .machine) (responder x (b .machine) i)) (f .0)
-    done-have-f-as-before = done-has x f b fine typed hosted
-
-    pub others-have-f-as-before : (j : ℕ) → NotAmong (responders x (b .machine)) (length vs) j
-        → bit (response (s .machine) j) (f .0) ≡ bit (response (b .machine) j) (f .0)
-    others-have-f-as-before = others-have x f b fine typed hosted
-
-  module _ {s : State} {image : List ℕ} {phase : Phase} {vs : List Verdict} {book : List Entry} (hosted : Hosted x f b s image phase vs book) where
-    -- "From an older image the round is the one that stood then": wherever the round went on to after `hosted`, from the image that was the last
-    -- there it shows the responder that was the next then
-    pub from-older-image : {words responses : List ℕ} {t : State} → Resumes words responses image t → (k : ℕ) → Responder x (b .machine) k → lower x (b .machine) k ≡ length vs
-        → showOf x (t .machine) ≡ resolved.At (record { 0 = k })
-    from-older-image resumes = next-is-shown (stops hosted resumes)
-
-    -- "never skipped, at most one twice at each stop": each word shown was the next responder or, after a stop, the last one again (`Orderly`)
-    pub shown-in-order : (many : ℕ) × ((length vs ≤ many) × (many ≤ length vs + 1) × Orderly x (b .machine) book many)
-    shown-in-order = in-order x f b fine typed hosted
-
-    pub never-skipped : (k : ℕ) → Responder x (b .machine) k → lower x (b .machine) k < length vs → Shown k book
-    never-skipped = none-skipped x f b fine typed hosted
-
-    -- what stands can always be stored, and the last stored image resumed
-    pub can-store-round : (output : List ℕ) → length (imageOf s) ≤ length output → Stores output s (imageOf s)
-    can-store-round = storable-round x f b fine typed hosted
-
-    pub can-resume-round : (words responses : List ℕ) → length (b .machine .words) ≤ length words → length (b .machine .words) ≤ length responses
-        → (t : State) × Resumes words responses image t
-    can-resume-round = resumable x f b fine typed hosted
-
--- ---- which calls leave X and F alone: pulses whose target has neither, or that raise neither search nor complement; steps of jobs that work on
--- neither; and every call that lends by & only or lends the panel alone (starts, totals, shows, resolutions, writing, loads)
-
-pub pulse-with-other-target : (x f : ResponseBit) (m : Machine) (p : Panel) (l : Lines) → pulseCheck m p l ≡ Passed → Fit x f → bit (p .target) (x .0) ≡ 0
-    → bit (p .target) (f .0) ≡ 0 → Leaves x f m (after m p l)
-pulse-with-other-target = target-spares
-
-pub pulse-without-target : (x f : ResponseBit) (m : Machine) (p : Panel) (l : Lines) → pulseCheck m p l ≡ Passed → l .search ≡ false → l .complement ≡ false
-    → Leaves x f m (after m p l)
-pulse-without-target = lines-spare
-
-pub step-with-other-bits : (x f : ResponseBit) → Fit x f → (s : State) (o : Job) → s .held ≡ Holds o → Apart o x → Apart o f → {k : Command} {c : ℕ} {h : Held}
-    → stepOf (s .machine) (s .held) ≡ answer.Gave k c h → Leaves x f (s .machine) (afterStep (s .machine) (s .held))
-unfolding stepped
-step-with-other-bits = step-spares
-
-pub calls-that-only-look : (x f : ResponseBit) (m : Machine) → Leaves x f m m
-calls-that-only-look = all-left
