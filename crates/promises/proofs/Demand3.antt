@@ -11,6 +11,7 @@ use lib.ListN.{length}
 use Rattle.laws.specs.Bits.{digit}
 use Rattle.machine.specs.Machine.{Machine}
 use Rattle.job_plans.specs.declared.Job.{Job}
+use Rattle.job_plans.specs.declared.Held.{Held}
 use Rattle.job_plans.specs.declared.Held.the-variants.{Nothing, Holds}
 use Rattle.job_plans.specs.declared.Command.{Command}
 use Rattle.jobs.specs.declared.Stepped.the-variants as answer
