@@ -1,5 +1,5 @@
--- From the calls' own contracts to the demands: of every public call, what its source promises (`Post` of the call, of its arguments a, an answer r
--- and what stands behind the lent references at exit, s) is what the three demands speak of.
+-- The three demands, said of the calls themselves: of every public call, what its own source promises (`Post` of the call, of its arguments a, an
+-- answer r and what stands behind the lent references at exit, s) is what the demands speak of. What is lent by & cannot change.
 use Prim.Native.Nat.{ℕ, _*_, _<_}
 use mathlib.Core.Path.{_≡_, refl, sym, ap, _∙_}
 use mathlib.Core.Bool.{Bool, true, false, not}
@@ -23,36 +23,52 @@ use denote.Triple.Entry.{Args, Res}
 use denote.Triple.Clauses.{AtExit, Clauses}
 use denote.Ref.{now}
 use Rattle.laws.specs.Bits.{pick}
-use Rattle.machine.specs.declared.Panel.{Panel}
-use Rattle.machine.specs.declared.Lines.{Lines}
-use Rattle.machine.specs.declared.Refusal.{Refusal}
-use Rattle.machine.specs.declared.Refusal.the-variants as refusal
 use Rattle.machine.specs.declared.Answer.{Answer}
 use Rattle.machine.specs.declared.Answer.the-variants as done
 use Rattle.machine.specs.declared.Check.{Check}
 use Rattle.machine.specs.declared.Check.the-variants.{Passed, Refused}
+use Rattle.machine.specs.declared.Lines.{Lines}
+use Rattle.machine.specs.declared.Panel.{Panel}
+use Rattle.machine.specs.declared.Refusal.{Refusal}
+use Rattle.machine.specs.declared.Refusal.the-variants as refusal
+use Rattle.machine.specs.declared.ResponseBit.{ResponseBit}
+use Rattle.machine.specs.declared.WordSlice.{WordSlice}
 use Rattle.machine.specs.Machine.{Machine, machine, responseBits}
 use Rattle.machine.specs.Panel.{panelOf, registers, load}
 use Rattle.machine.specs.Pulse as pulse
 use Rattle.machine.specs.Pulse.{countOf, pulsed}
-use Rattle.machine.specs.Refusals.{tooWide, machineCheck, pulseCheck, answerBy, changeBy, answerOf, after, tells, told}
+use Rattle.machine.specs.Refusals.{tooWide, machineCheck, pulseCheck, answerBy, changeBy, answerOf, after, tells}
+use Rattle.machine.specs.Resolution.{resolved}
 use Rattle.machine.proofs.Loads.{held, load-that, load-no-other, same-panel}
-use Rattle.resolver.specs.Answers.{resolution}
-use Rattle.rounds.specs.Round as rounds
-use Rattle.rounds.specs.Round.{showCheck, showOf, roundCheck, answerCheck, replyOf, answeredAt, afterAnswer}
-use Rattle.handout.specs.Whole.{reportOf, afterEnded, afterRound}
-use Rattle.job_plans.specs.declared.Held.{Held}
-use Rattle.jobs.specs.Calls.{startCheck, startOf, stepCheck, stepOf, machineAfter, afterStep}
-use Rattle.jobs.specs.declared.Stepped.{Stepped}
-use Rattle.jobs.specs.declared.Stepped.the-variants as gives
-use Rattle.job_tally.specs.Totals.{totalCheck, totalOf}
-use Rattle.jobs.specs.Runs.{State, state, heldAfter, stepped}
-use Rattle.image.specs.Calls.{writeCheck, writeOf, written, readCheck, readOf, wordsRead, responsesRead}
-use Rattle.entries.specs.Numbers.{linesOf, resultOf}
 use Rattle.panel.specs.Numbered.{takes}
 use Rattle.panel.proofs.Thin.{Value, number, word, signature, ended, clauses}
-use Rattle.promises.proofs.Demand1.{Entry, first, given, machineTable, pulseTable, showTable, answerTable, roundTable, startTable, stepsTable, totalTable, writeTable, readTable, pulse-given, resolution-given, show-given, answer-given, round-given, start-given, step-given, total-given, write-given, read-given}
+use Rattle.resolver.specs.declared.Resolved.the-variants as found
+use Rattle.resolver.specs.Answers.{asResolved, resolution}
+use Rattle.rounds.specs.declared.Reply.the-variants as reply
+use Rattle.rounds.specs.Round as rounds
+use Rattle.rounds.specs.Round.{shown, showCheck, showOf, roundCheck, answerCheck, replyOf, answeredAt, afterAnswer}
+use Rattle.handout.specs.declared.Report.the-variants as report
+use Rattle.handout.specs.Whole as whole-round
+use Rattle.handout.specs.Whole.{reportOf, afterEnded, afterRound}
+use Rattle.job_plans.specs.declared.Held.{Held}
+use Rattle.job_plans.specs.declared.Job.{Job}
+use Rattle.job_plans.specs.Places as place
+use Rattle.job_tally.specs.declared.Total.the-variants as tally
+use Rattle.job_tally.specs.Totals.{heldPulses, totalCheck, totalOf}
+use Rattle.jobs.specs.declared.Started.the-variants as started
+use Rattle.jobs.specs.declared.Stepped.{Stepped}
+use Rattle.jobs.specs.declared.Stepped.the-variants as gives
+use Rattle.jobs.specs.Calls.{startCheck, startOf, stepCheck, gave, stepOf, machineAfter, afterStep}
+use Rattle.jobs.specs.Runs.{State, state, heldAfter, stepped}
+use Rattle.image_layout.specs.Format.{imageOf}
+use Rattle.image_layout.specs.Reading.{stateIn}
+use Rattle.image.specs.declared.Read.{Read}
+use Rattle.image.specs.declared.Read.the-variants as back
+use Rattle.image.specs.declared.Wrote.the-variants as wrote
+use Rattle.image.specs.Calls.{writeCheck, writeOf, written, readCheck, readOf, wordsRead, responsesRead}
+use Rattle.entries.specs.Numbers.{linesOf, resultOf}
 use Rattle.promises.proofs.Answered.{tellsAnswer, tellsResolved, tellsReport, tellsStarted, tellsStepped, tellsTotal, tellsWrote, tellsRead, pulse-tells, resolution-tells, show-tells, answer-tells, round-tells, start-tells, step-tells, total-tells, write-tells, read-tells, pulse-unchanged, answer-unchanged, round-unchanged, step-unchanged, write-unchanged, read-unchanged}
+use Rattle.promises.proofs.Demand1.{Entry, first, given, machineTable, pulseTable, showTable, answerTable, roundTable, startTable, stepsTable, totalTable, writeTable, readTable, pulse-given, resolution-given, show-given, answer-given, round-given, start-given, step-given, total-given, write-given, read-given}
 use Rattle.cells.proofs.pulse as plain-pulse
 use Rattle.cells.proofs.pulse.Kinds as plain-pulse-kinds
 use Rattle.cells.proofs.pulse.Reads as plain-pulse-reads
@@ -140,12 +156,12 @@ use Rattle.panel.proofs.takes.Reads as taking-reads
 
 -- ---- what each call's contract says
 
--- of an answer r, where `says` is the answer that the demands speak of, with its part of the table (Demand 1) and its check, which is passed
--- where Demand 2 and Demand 3 begin
-pub record Answers {R : Type 0} (tell : R → ℕ × ℕ) (table : List Entry) (check : Check) (says r : R) : Type 0 where
+-- of an answer r, where `says` is the answer that the demands speak of: its part of the table (Demand 1), and where its number is 0 its check is
+-- passed, which is where Demand 2 and Demand 3 begin, and it answers `done`
+pub record Answers {R : Type 0} (tell : R → ℕ × ℕ) (table : List Entry) (check : Check) (says done r : R) : Type 0 where
   pub answers : r ≡ says
   pub number : tell r ≡ first table
-  pub accepted : tell r .0 ≡ 0 → check ≡ Passed
+  pub accepted : tell r .0 ≡ 0 → (check ≡ Passed) × (r ≡ done)
 
 -- of what is lent by &mut, `before` the call and `now`, where `left` is what the demands speak of: "nothing lent changes" where the answer's
 -- number is not 0
@@ -171,14 +187,15 @@ passed : (c : Check) → given c .0 ≡ 0 → c ≡ Passed
 passed Passed e = refl
 passed (Refused r) e = absurd (no-zero r e)
 
-answers-by : {R : Type 0} (tell : R → ℕ × ℕ) {table : List Entry} (check : Check) (says r : R)
-    → tell says ≡ first table → given check ≡ first table → r ≡ says → Answers tell table check says r
-answers-by tell check says r t g e =
-    record {
-      answers = e;
-      number = ap tell e ∙ t;
-      accepted = λ z. passed check (ap (λ (x : ℕ × ℕ). x .0) (g ∙ sym t ∙ sym (ap tell e)) ∙ z);
-    }
+answers-by : {R : Type 0} (tell : R → ℕ × ℕ) {table : List Entry} (check : Check) (says : R) {done : R} (r : R)
+    → tell says ≡ first table → given check ≡ first table → (check ≡ Passed → says ≡ done) → r ≡ says → Answers tell table check says done r
+answers-by tell check says r t g d e =
+    let p : tell r .0 ≡ 0 → check ≡ Passed = λ z. passed check (ap (λ (x : ℕ × ℕ). x .0) (g ∙ sym t ∙ sym (ap tell e)) ∙ z) in
+    record { answers = e; number = ap tell e ∙ t; accepted = λ z. (p z, e ∙ d (p z)) }
+
+-- what a call answers where its check is passed
+taken : {R : Type 0} (turned : Refusal → R) (done : R) (c : Check) → c ≡ Passed → answerBy c turned done ≡ done
+taken turned done c e = ap (λ (d : Check). answerBy d turned done) e
 
 leaves-by : {A : Type 0} {before left now : A} {n k : ℕ × ℕ} → n ≡ k → ((k .0 ≡ 0 → ⊥) → left ≡ before) → now ≡ left → Leaves (n .0) before left now
 leaves-by e u h = record { leaves = h; unchanged = λ z. h ∙ u (λ g. z (ap (λ (x : ℕ × ℕ). x .0) e ∙ g)) }
@@ -190,7 +207,7 @@ whole n ws rs m e f g = rw (← e, f, g)
 -- ---- the two machines: an outcome of a pulse on m with panel p and lines l, the answer r and the machine n afterwards
 
 abbrev pub Pulse : Machine → Panel → Lines → Answer → Machine → Type 0
-Pulse m p l r n = Answers tellsAnswer (pulseTable m p l) (pulseCheck m p l) (answerOf m p l) r × Leaves (tellsAnswer r .0) m (after m p l) n
+Pulse m p l r n = Answers tellsAnswer (pulseTable m p l) (pulseCheck m p l) (answerOf m p l) (done.Done (countOf m p l) (pulse.readOf m p l)) r × Leaves (tellsAnswer r .0) m (after m p l) n
 
 same-width : (m : Machine) (p : Panel) (l : Lines) → after m p l .width ≡ m .width
 unfolding after pulsed
@@ -200,20 +217,30 @@ same-width m p l = go (pulseCheck m p l)
     go Passed = refl
     go (Refused r) = refl
 
+pulse-done : (m : Machine) (p : Panel) (l : Lines) → pulseCheck m p l ≡ Passed → answerOf m p l ≡ done.Done (countOf m p l) (pulse.readOf m p l)
+unfolding answerOf
+pulse-done m p l = taken done.Refused _ (pulseCheck m p l)
+
 a-pulse : (m : Machine) (p : Panel) (l : Lines) (r : Answer) (ws rs : List ℕ) → r ≡ answerOf m p l → ws ≡ after m p l .words → rs ≡ after m p l .responses
     → Pulse m p l r (machine (m .width) ws rs)
 a-pulse m p l r ws rs e f g =
-    let a = answers-by tellsAnswer (pulseCheck m p l) (answerOf m p l) r (pulse-tells m p l) (pulse-given m p l) e in
+    let a = answers-by tellsAnswer (pulseCheck m p l) (answerOf m p l) r (pulse-tells m p l) (pulse-given m p l) (pulse-done m p l) e in
     (a, leaves-by (a .number) (pulse-unchanged m p l) (whole (m .width) ws rs (after m p l) (same-width m p l) f g))
 
 pub plain-pulse-meets : (κs : Lfts 2) (a : ArgsD plain-pulse.signature κs) (r : ResD plain-pulse.signature κs) (s : AtExit (endedOf 2 plain-pulse-kinds.ps plain-pulse-kinds.r) κs)
     → plain-pulse-reads.Post κs a r s
-    → Pulse (machine (a .1 .1 .0) (now (a .0)) (now (a .1 .0))) (a .1 .1 .1 .0) (a .1 .1 .1 .1 .0) r (machine (a .1 .1 .0) (now (s .0)) (now (s .1 .0)))
+    → let m = machine (a .1 .1 .0) (now (a .0)) (now (a .1 .0)) in
+    let panel = a .1 .1 .1 .0 in
+    let lines = a .1 .1 .1 .1 .0 in
+    Pulse m panel lines r (machine (m .width) (now (s .0)) (now (s .1 .0)))
 plain-pulse-meets κs a r s h = a-pulse (machine (a .1 .1 .0) (now (a .0)) (now (a .1 .0))) (a .1 .1 .1 .0) (a .1 .1 .1 .1 .0) r (now (s .0)) (now (s .1 .0)) (h .0) (h .1 .0) (h .1 .1)
 
 pub wide-pulse-meets : (κs : Lfts 2) (a : ArgsD wide-pulse.signature κs) (r : ResD wide-pulse.signature κs) (s : AtExit (endedOf 2 wide-pulse-kinds.ps wide-pulse-kinds.r) κs)
     → wide-pulse-reads.Post κs a r s
-    → Pulse (machine (a .1 .1 .0) (now (a .0)) (now (a .1 .0))) (a .1 .1 .1 .0) (a .1 .1 .1 .1 .0) r (machine (a .1 .1 .0) (now (s .0)) (now (s .1 .0)))
+    → let m = machine (a .1 .1 .0) (now (a .0)) (now (a .1 .0)) in
+    let panel = a .1 .1 .1 .0 in
+    let lines = a .1 .1 .1 .1 .0 in
+    Pulse m panel lines r (machine (m .width) (now (s .0)) (now (s .1 .0)))
 wide-pulse-meets κs a r s h = a-pulse (machine (a .1 .1 .0) (now (a .0)) (now (a .1 .0))) (a .1 .1 .1 .0) (a .1 .1 .1 .1 .0) r (now (s .0)) (now (s .1 .0)) (h .0) (h .1 .0) (h .1 .1)
 
 -- the same two for callers in other languages: the count, or 2^32 times the number of a refusal
@@ -255,47 +282,65 @@ linesIn κs a = linesOf (a .1 .1 .1 .1 .1 .1 .1 .1 .1 .1 .1 .1 .0)
 
 pub plain-entry-meets : (κs : Lfts 2) (a : ArgsD plain-entry.signature κs) (r : ResD plain-entry.signature κs) (s : AtExit (endedOf 2 plain-entry-kinds.ps plain-entry-kinds.r) κs)
     → plain-entry-reads.Post κs a r s
-    → Entered (machine (a .1 .1 .0) (now (a .0)) (now (a .1 .0))) (panelIn κs a) (linesIn κs a) r (machine (a .1 .1 .0) (now (s .0)) (now (s .1 .0)))
+    → let m = machine (a .1 .1 .0) (now (a .0)) (now (a .1 .0)) in
+    Entered m (panelIn κs a) (linesIn κs a) r (machine (m .width) (now (s .0)) (now (s .1 .0)))
 plain-entry-meets κs a r s h = an-entry (machine (a .1 .1 .0) (now (a .0)) (now (a .1 .0))) (panelIn κs a) (linesIn κs a) r (now (s .0)) (now (s .1 .0)) (h .0) (h .1 .0) (h .1 .1)
 
 pub wide-entry-meets : (κs : Lfts 2) (a : ArgsD wide-entry.signature κs) (r : ResD wide-entry.signature κs) (s : AtExit (endedOf 2 wide-entry-kinds.ps wide-entry-kinds.r) κs)
     → wide-entry-reads.Post κs a r s
-    → Entered (machine (a .1 .1 .0) (now (a .0)) (now (a .1 .0))) (panelIn κs a) (linesIn κs a) r (machine (a .1 .1 .0) (now (s .0)) (now (s .1 .0)))
+    → let m = machine (a .1 .1 .0) (now (a .0)) (now (a .1 .0)) in
+    Entered m (panelIn κs a) (linesIn κs a) r (machine (m .width) (now (s .0)) (now (s .1 .0)))
 wide-entry-meets κs a r s h = an-entry (machine (a .1 .1 .0) (now (a .0)) (now (a .1 .0))) (panelIn κs a) (linesIn κs a) r (now (s .0)) (now (s .1 .0)) (h .0) (h .1 .0) (h .1 .1)
 
 -- ---- resolution
+
+resolution-done : (key care : ℕ) (m : Machine) → machineCheck m ≡ Passed → resolution key care m ≡ asResolved (resolved key care m)
+unfolding resolution
+resolution-done key care m = taken found.Refused _ (machineCheck m)
 
 pub scan-meets : (κs : Lfts 2) (a : ArgsD scan.signature κs) (r : ResD scan.signature κs) (s : AtExit (endedOf 2 scan-kinds.ps scan-kinds.r) κs)
     → scan-reads.Post κs a r s
     → let m = machine (a .1 .1 .0) (now (a .0)) (now (a .1 .0)) in
     let key = a .1 .1 .1 .0 in
     let care = a .1 .1 .1 .1 .0 in
-    Answers tellsResolved (machineTable m []) (machineCheck m) (resolution key care m) r
+    Answers tellsResolved (machineTable m []) (machineCheck m) (resolution key care m) (asResolved (resolved key care m)) r
 scan-meets κs a r s h =
     let m = machine (a .1 .1 .0) (now (a .0)) (now (a .1 .0)) in
-    answers-by tellsResolved (machineCheck m) (resolution (a .1 .1 .1 .0) (a .1 .1 .1 .1 .0) m) r (resolution-tells (a .1 .1 .1 .0) (a .1 .1 .1 .1 .0) m) (resolution-given m) h
+    answers-by tellsResolved (machineCheck m) (resolution (a .1 .1 .1 .0) (a .1 .1 .1 .1 .0) m) r (resolution-tells (a .1 .1 .1 .0) (a .1 .1 .1 .1 .0) m) (resolution-given m) (resolution-done (a .1 .1 .1 .0) (a .1 .1 .1 .1 .0) m) h
 
 pub network-meets : (κs : Lfts 2) (a : ArgsD network.signature κs) (r : ResD network.signature κs) (s : AtExit (endedOf 2 network-kinds.ps network-kinds.r) κs)
     → network-reads.Post κs a r s
     → let m = machine (a .1 .1 .0) (now (a .0)) (now (a .1 .0)) in
     let key = a .1 .1 .1 .0 in
     let care = a .1 .1 .1 .1 .0 in
-    Answers tellsResolved (machineTable m []) (machineCheck m) (resolution key care m) r
+    Answers tellsResolved (machineTable m []) (machineCheck m) (resolution key care m) (asResolved (resolved key care m)) r
 network-meets κs a r s h =
     let m = machine (a .1 .1 .0) (now (a .0)) (now (a .1 .0)) in
-    answers-by tellsResolved (machineCheck m) (resolution (a .1 .1 .1 .0) (a .1 .1 .1 .1 .0) m) r (resolution-tells (a .1 .1 .1 .0) (a .1 .1 .1 .1 .0) m) (resolution-given m) h
+    answers-by tellsResolved (machineCheck m) (resolution (a .1 .1 .1 .0) (a .1 .1 .1 .1 .0) m) r (resolution-tells (a .1 .1 .1 .0) (a .1 .1 .1 .1 .0) m) (resolution-given m) (resolution-done (a .1 .1 .1 .0) (a .1 .1 .1 .1 .0) m) h
 
 -- ---- the round
+
+show-done : (x : ResponseBit) (m : Machine) → showCheck x m ≡ Passed → showOf x m ≡ asResolved (shown x m)
+unfolding showOf
+show-done x m = taken found.Refused _ (showCheck x m)
+
+answer-done : (x f : ResponseBit) (k : WordSlice) (m : Machine) → answerCheck x f k m ≡ Passed → replyOf x f k m ≡ reply.Taken
+unfolding replyOf
+answer-done x f k m = taken reply.Refused _ (answerCheck x f k m)
+
+round-done : (x f : ResponseBit) (vs : List ℕ) (m : Machine) → roundCheck x f m ≡ Passed → reportOf x f vs m ≡ whole-round.ended x vs m
+unfolding reportOf
+round-done x f vs m = taken report.Refused _ (roundCheck x f m)
 
 pub show-meets : (κs : Lfts 2) (a : ArgsD show.signature κs) (r : ResD show.signature κs) (s : AtExit (endedOf 2 show-kinds.ps show-kinds.r) κs)
     → show-reads.Post κs a r s
     → let m = machine (a .1 .1 .0) (now (a .0)) (now (a .1 .0)) in
     let x = a .1 .1 .1 .0 in
-    Answers tellsResolved (showTable x m) (showCheck x m) (showOf x m) r
+    Answers tellsResolved (showTable x m) (showCheck x m) (showOf x m) (asResolved (shown x m)) r
 show-meets κs a r s h =
     let m = machine (a .1 .1 .0) (now (a .0)) (now (a .1 .0)) in
     let x = a .1 .1 .1 .0 in
-    answers-by tellsResolved (showCheck x m) (showOf x m) r (show-tells x m) (show-given x m) h
+    answers-by tellsResolved (showCheck x m) (showOf x m) r (show-tells x m) (show-given x m) (show-done x m) h
 
 -- an answer and a round change nothing but responses
 responses-only : (c : Check) (m : Machine) (qs rs : List ℕ) → rs ≡ changeBy c (machine (m .width) (m .words) qs) m .responses
@@ -310,7 +355,7 @@ pub answer-meets : (κs : Lfts 2) (a : ArgsD answer.signature κs) (r : ResD ans
     let f = a .1 .1 .1 .1 .0 in
     let k = a .1 .1 .1 .1 .1 .0 in
     let v = a .1 .1 .1 .1 .1 .1 .0 in
-    Answers rounds.told (answerTable x f k m) (answerCheck x f k m) (replyOf x f k m) r
+    Answers rounds.told (answerTable x f k m) (answerCheck x f k m) (replyOf x f k m) reply.Taken r
     × Leaves (rounds.told r .0) m (afterAnswer x f k v m) (machine (m .width) (m .words) (now (s .1 .0)))
 unfolding afterAnswer
 answer-meets κs a r s h =
@@ -319,7 +364,7 @@ answer-meets κs a r s h =
     let f = a .1 .1 .1 .1 .0 in
     let k = a .1 .1 .1 .1 .1 .0 in
     let v = a .1 .1 .1 .1 .1 .1 .0 in
-    let b = answers-by rounds.told (answerCheck x f k m) (replyOf x f k m) r (answer-tells x f k m) (answer-given x f k m) (h .0) in
+    let b = answers-by rounds.told (answerCheck x f k m) (replyOf x f k m) r (answer-tells x f k m) (answer-given x f k m) (answer-done x f k m) (h .0) in
     (b, leaves-by (b .number) (answer-unchanged x f k v m) (responses-only (answerCheck x f k m) m (answeredAt x f k v m .responses) (now (s .1 .0)) (h .1)))
 
 pub round-meets : (κs : Lfts 3) (a : ArgsD round.signature κs) (r : ResD round.signature κs) (s : AtExit (endedOf 3 round-kinds.ps round-kinds.r) κs)
@@ -328,7 +373,7 @@ pub round-meets : (κs : Lfts 3) (a : ArgsD round.signature κs) (r : ResD round
     let x = a .1 .1 .1 .0 in
     let f = a .1 .1 .1 .1 .0 in
     let vs = now (a .1 .1 .1 .1 .1 .0) in
-    Answers tellsReport (roundTable x f m) (roundCheck x f m) (reportOf x f vs m) r
+    Answers tellsReport (roundTable x f m) (roundCheck x f m) (reportOf x f vs m) (whole-round.ended x vs m) r
     × Leaves (tellsReport r .0) m (afterRound x f vs m) (machine (m .width) (m .words) (now (s .1 .0)))
 unfolding afterRound afterEnded
 round-meets κs a r s h =
@@ -336,22 +381,34 @@ round-meets κs a r s h =
     let x = a .1 .1 .1 .0 in
     let f = a .1 .1 .1 .1 .0 in
     let vs = now (a .1 .1 .1 .1 .1 .0) in
-    let b = answers-by tellsReport (roundCheck x f m) (reportOf x f vs m) r (round-tells x f vs m) (round-given x f m) (h .0) in
+    let b = answers-by tellsReport (roundCheck x f m) (reportOf x f vs m) r (round-tells x f vs m) (round-given x f m) (round-done x f vs m) (h .0) in
     (b, leaves-by (b .number) (round-unchanged x f vs m) (responses-only (roundCheck x f m) m (afterEnded x f vs m .responses) (now (s .1 .0)) (h .1)))
 
 -- ---- jobs
+
+start-done : (m : Machine) (h : Held) (o : Job) → startCheck m h o ≡ Passed → startOf m h o ≡ started.Holds (place.first o)
+unfolding startOf
+start-done m h o = taken started.Refused _ (startCheck m h o)
+
+step-done : (m : Machine) (h : Held) → stepCheck m h ≡ Passed → stepOf m h ≡ gave m h
+unfolding stepOf
+step-done m h = taken gives.Refused _ (stepCheck m h)
+
+total-done : (m : Machine) (h : Held) → totalCheck m h ≡ Passed → totalOf m h ≡ tally.Pulses (heldPulses m h)
+unfolding totalOf
+total-done m h = taken tally.Refused _ (totalCheck m h)
 
 pub start-meets : (κs : Lfts 2) (a : ArgsD start.signature κs) (r : ResD start.signature κs) (s : AtExit (endedOf 2 start-kinds.ps start-kinds.r) κs)
     → start-reads.Post κs a r s
     → let m = machine (a .1 .1 .0) (now (a .0)) (now (a .1 .0)) in
     let held = a .1 .1 .1 .0 in
     let offered = a .1 .1 .1 .1 .0 in
-    Answers tellsStarted (startTable m held offered) (startCheck m held offered) (startOf m held offered) r
+    Answers tellsStarted (startTable m held offered) (startCheck m held offered) (startOf m held offered) (started.Holds (place.first offered)) r
 start-meets κs a r s h =
     let m = machine (a .1 .1 .0) (now (a .0)) (now (a .1 .0)) in
     let held = a .1 .1 .1 .0 in
     let offered = a .1 .1 .1 .1 .0 in
-    answers-by tellsStarted (startCheck m held offered) (startOf m held offered) r (start-tells m held offered) (start-given m held offered) h
+    answers-by tellsStarted (startCheck m held offered) (startOf m held offered) r (start-tells m held offered) (start-given m held offered) (start-done m held offered) h
 
 -- the machine and what the answer says is held are what one step leaves (`stepped`)
 step-width : (m : Machine) (h : Held) → afterStep m h .width ≡ m .width
@@ -376,14 +433,14 @@ pub step-meets : (κs : Lfts 2) (a : ArgsD step.signature κs) (r : ResD step.si
     → step-reads.Post κs a r s
     → let m = machine (a .1 .1 .0) (now (a .0)) (now (a .1 .0)) in
     let held = a .1 .1 .1 .0 in
-    Answers tellsStepped (stepsTable m held) (stepCheck m held) (stepOf m held) r
+    Answers tellsStepped (stepsTable m held) (stepCheck m held) (stepOf m held) (gave m held) r
     × Leaves (tellsStepped r .0) (record { machine = m; held = held }) (stepped (record { machine = m; held = held }))
     (state (m .width) (now (s .0)) (now (s .1 .0)) (heldAfter r held))
 unfolding stepped
 step-meets κs a r s h =
     let m = machine (a .1 .1 .0) (now (a .0)) (now (a .1 .0)) in
     let held = a .1 .1 .1 .0 in
-    let b = answers-by tellsStepped (stepCheck m held) (stepOf m held) r (step-tells m held) (step-given m held) (h .0) in
+    let b = answers-by tellsStepped (stepCheck m held) (stepOf m held) r (step-tells m held) (step-given m held) (step-done m held) (h .0) in
     let t = step-tells m held in (
       b,
       leaves-by (b .number) (λ z. both (afterStep m held) m _ held (step-unchanged m held z) (held-still m held (λ y. z (sym (ap (λ (x : ℕ × ℕ). x .0) t) ∙ y))))
@@ -394,24 +451,36 @@ pub total-meets : (κs : Lfts 2) (a : ArgsD total.signature κs) (r : ResD total
     → total-reads.Post κs a r s
     → let m = machine (a .1 .1 .0) (now (a .0)) (now (a .1 .0)) in
     let held = a .1 .1 .1 .0 in
-    Answers tellsTotal (totalTable m held) (totalCheck m held) (totalOf m held) r
+    Answers tellsTotal (totalTable m held) (totalCheck m held) (totalOf m held) (tally.Pulses (heldPulses m held)) r
 total-meets κs a r s h =
     let m = machine (a .1 .1 .0) (now (a .0)) (now (a .1 .0)) in
     let held = a .1 .1 .1 .0 in
-    answers-by tellsTotal (totalCheck m held) (totalOf m held) r (total-tells m held) (total-given m held) h
+    answers-by tellsTotal (totalCheck m held) (totalOf m held) r (total-tells m held) (total-given m held) (total-done m held) h
 
 -- ---- the image
+
+write-done : (m : State) (room : ℕ) → writeCheck m room ≡ Passed → writeOf m room ≡ wrote.Length (length (imageOf m))
+unfolding writeOf
+write-done m room = taken wrote.Refused _ (writeCheck m room)
+
+-- the answer for the machine that an image stands for
+abbrev pub machineIn : State → Read
+machineIn m = back.Machine (m .machine .width) (length (m .machine .words)) (m .held)
+
+read-done : (image : List ℕ) (words responses : ℕ) → readCheck image words responses ≡ Passed → readOf image words responses ≡ machineIn (stateIn image)
+unfolding readOf
+read-done image words responses = taken back.Refused _ (readCheck image words responses)
 
 pub write-meets : (κs : Lfts 3) (a : ArgsD write.signature κs) (r : ResD write.signature κs) (s : AtExit (endedOf 3 write-kinds.ps write-kinds.r) κs)
     → write-reads.Post κs a r s
     → let m = state (a .1 .1 .0) (now (a .0)) (now (a .1 .0)) (a .1 .1 .1 .0) in
     let out = now (a .1 .1 .1 .1 .0) in
-    Answers tellsWrote (writeTable m (length out)) (writeCheck m (length out)) (writeOf m (length out)) r
+    Answers tellsWrote (writeTable m (length out)) (writeCheck m (length out)) (writeOf m (length out)) (wrote.Length (length (imageOf m))) r
     × Leaves (tellsWrote r .0) out (written m out) (now (s .1 .1 .1 .1 .0))
 write-meets κs a r s h =
     let m = state (a .1 .1 .0) (now (a .0)) (now (a .1 .0)) (a .1 .1 .1 .0) in
     let out = now (a .1 .1 .1 .1 .0) in
-    let b = answers-by tellsWrote (writeCheck m (length out)) (writeOf m (length out)) r (write-tells m (length out)) (write-given m (length out)) (h .0) in
+    let b = answers-by tellsWrote (writeCheck m (length out)) (writeOf m (length out)) r (write-tells m (length out)) (write-given m (length out)) (write-done m (length out)) (h .0) in
     (b, leaves-by (b .number) (write-unchanged m out) (h .1))
 
 pub read-meets : (κs : Lfts 3) (a : ArgsD read.signature κs) (r : ResD read.signature κs) (s : AtExit (endedOf 3 read-kinds.ps read-kinds.r) κs)
@@ -419,7 +488,7 @@ pub read-meets : (κs : Lfts 3) (a : ArgsD read.signature κs) (r : ResD read.si
     → let image = now (a .0) in
     let ws = now (a .1 .0) in
     let rs = now (a .1 .1 .0) in
-    Answers tellsRead (readTable image (length ws) (length rs)) (readCheck image (length ws) (length rs)) (readOf image (length ws) (length rs)) r
+    Answers tellsRead (readTable image (length ws) (length rs)) (readCheck image (length ws) (length rs)) (readOf image (length ws) (length rs)) (machineIn (stateIn image)) r
     × Leaves (tellsRead r .0) ws (wordsRead image ws rs) (now (s .1 .0))
     × Leaves (tellsRead r .0) rs (responsesRead image ws rs) (now (s .1 .1 .0))
 read-meets κs a r s h =
@@ -427,7 +496,7 @@ read-meets κs a r s h =
     let ws = now (a .1 .0) in
     let rs = now (a .1 .1 .0) in
     let c = readCheck image (length ws) (length rs) in
-    let b = answers-by tellsRead c (readOf image (length ws) (length rs)) r (read-tells image (length ws) (length rs)) (read-given image (length ws) (length rs)) (h .0) in
+    let b = answers-by tellsRead c (readOf image (length ws) (length rs)) r (read-tells image (length ws) (length rs)) (read-given image (length ws) (length rs)) (read-done image (length ws) (length rs)) (h .0) in
     (b, leaves-by (b .number) (λ z. read-unchanged image ws rs z .0) (h .1 .0), leaves-by (b .number) (λ z. read-unchanged image ws rs z .1) (h .1 .1))
 
 -- ---- the panel

@@ -16,13 +16,13 @@ use borrow.Fn.Kinds.{endedOf}
 use denote.Triple.Clauses.{AtExit}
 use denote.Ref.{now}
 use Rattle.laws.specs.Bits.{pick}
-use Rattle.machine.specs.declared.Panel.{Panel}
-use Rattle.machine.specs.declared.Lines.{Lines}
-use Rattle.machine.specs.declared.WordSlice.{WordSlice}
-use Rattle.machine.specs.declared.ResponseBit.{ResponseBit}
-use Rattle.machine.specs.declared.Refusal.the-variants.{NoRoom}
 use Rattle.machine.specs.declared.Check.{Check}
 use Rattle.machine.specs.declared.Check.the-variants.{Passed, Refused}
+use Rattle.machine.specs.declared.Lines.{Lines}
+use Rattle.machine.specs.declared.Panel.{Panel}
+use Rattle.machine.specs.declared.Refusal.the-variants.{NoRoom}
+use Rattle.machine.specs.declared.ResponseBit.{ResponseBit}
+use Rattle.machine.specs.declared.WordSlice.{WordSlice}
 use Rattle.machine.specs.Machine.{Machine, machine}
 use Rattle.machine.specs.Pulse.{pulsed}
 use Rattle.machine.specs.Refusals.{pulseCheck, answerBy, changeBy, after}
@@ -33,22 +33,22 @@ use Rattle.rounds.specs.declared.Verdict.the-variants.{Done, Faulty}
 use Rattle.rounds.specs.Round.{has, put, answered, roundCheck, answerCheck, answeredAt, afterAnswer}
 use Rattle.rounds.proofs.Marks.{put-lt}
 use Rattle.handout.specs.Whole.{each, worked, verdictOf, afterEnded, afterRound}
-use Rattle.job_plans.specs.declared.Job.{Job}
 use Rattle.job_plans.specs.declared.Held.{Held}
 use Rattle.job_plans.specs.declared.Held.the-variants.{Holds}
+use Rattle.job_plans.specs.declared.Job.{Job}
 use Rattle.job_plans.specs.Places.{first}
 use Rattle.jobs.specs.declared.Started.the-variants as started
 use Rattle.jobs.specs.Calls.{startCheck, startOf}
 use Rattle.jobs.specs.Runs.{State, state, heldAfter}
+use Rattle.image_layout.specs.declared.Scanned.{Scanned}
+use Rattle.image_layout.specs.declared.Scanned.the-variants.{Sound, Broken}
+use Rattle.image_layout.specs.Format.{AreBytes, AreResponses, JobFits}
+use Rattle.image_layout.specs.Reading.{wordsIn, scanned, stateIn}
+use Rattle.image_layout.specs.Sizes.{wordSize, responseSize, itemsAt, wordsAt}
+use Rattle.image_layout.proofs.Reading.{length-numbers}
 use Rattle.image.specs.declared.Read.the-variants as read-answer
 use Rattle.image.specs.Calls.{refuseBytes, readCheck, readOf, responsesRead, Stored}
 use Rattle.image.proofs.Unique.{stored-again}
-use Rattle.image_layout.specs.declared.Scanned.{Scanned}
-use Rattle.image_layout.specs.declared.Scanned.the-variants.{Sound, Broken}
-use Rattle.image_layout.specs.Reading.{wordsIn, scanned, stateIn}
-use Rattle.image_layout.proofs.Reading.{length-numbers}
-use Rattle.image_layout.specs.Sizes.{wordSize, responseSize, itemsAt, wordsAt}
-use Rattle.image_layout.specs.Format.{AreBytes, AreResponses, JobFits}
 use Rattle.hosts.specs.Images.{Typed}
 use Rattle.hosts.proofs.Typed.{pulsed-responses, first-fits, stepped-typed}
 use Rattle.promises.proofs.Calls.{panelIn, linesIn, plain-pulse-meets, wide-pulse-meets, plain-entry-meets, wide-entry-meets, answer-meets, round-meets, start-meets, step-meets, read-meets}
