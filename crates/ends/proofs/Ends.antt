@@ -3,17 +3,17 @@ use Prim.Native.Nat.{ℕ, zero, suc, _+_, _<_}
 use mathlib.Core.Path.{_≡_, refl, ap, _∙_}
 use native.Mathlib.Omega.{arith}
 use Rattle.machine.specs.Machine.{Machine}
-use Rattle.machine.specs.Pulse.{pulsed}
+use Rattle.machine.specs.Refusals.{after}
 use Rattle.job_plans.specs.declared.Job.{Job}
 use Rattle.job_plans.specs.declared.Held.{Held}
-use Rattle.job_plans.specs.declared.Held.the-variants.{Nothing}
+use Rattle.job_plans.specs.declared.Held.the-variants.{Nothing, Holds}
+use Rattle.job_plans.specs.declared.Command.{Command}
 use Rattle.job_plans.specs.Fields.{Kind, greatest, smallest, scaledAdd, product, unknown, kindOf, usedCheck}
 use Rattle.job_plans.specs.Places.{first}
-use Rattle.job_plans.specs.Commands.{command}
 use Rattle.job_tally.specs.Totals.{pulses}
 use Rattle.jobs.specs.Runs.{State, stepped, steps, goOn, stepsTaken}
-use Rattle.ends.specs.Ends.{Accepted, begun, Gives, Course, ended}
-use Rattle.ends.proofs.Steps.{on, steps-on, steps-last, steps-idle}
+use Rattle.ends.specs.Ends.{Accepted, begun, Gives, commandAt, Course, ended}
+use Rattle.ends.proofs.Steps.{on, held-given, steps-on, steps-last, steps-idle}
 use Rattle.ends.proofs.Starts.{begins}
 use Rattle.ends.proofs.Greatest.{greatest-course}
 use Rattle.ends.proofs.Smallest.{smallest-course}
@@ -34,12 +34,12 @@ module _ (m : Machine) (o : Job) (accepted : Accepted m o) where
 
   -- not over before the last pulse
   pub not-over : (k : ℕ) → k < pulses m (first o) → steps k (begun m o) .held ≡ Nothing → ⊥
-  not-over k h e = let g = course .gives k h in let z : _≡_ {A = ℕ} 0 1 = cc (g .holds) in absurd (omega arith)
+  not-over k h e = held-given (steps k (begun m o) .machine) (steps k (begun m o) .held) (course .gives k h .answers) e
 
   -- "A job step answers the command it gave, and the machine after it is that command's pulse": each machine is the pulse of the one before it
-  pub each-pulse : (k : ℕ) (h : k < pulses m (first o)) → (let q = course .gives k h .job in
-      steps (suc k) (begun m o) .machine ≡ pulsed (steps k (begun m o) .machine) (command q .panel) (command q .lines))
-  each-pulse k h = ap (λ (s : State). s .machine) (steps-last k (begun m o)) ∙ course .gives k h .pulse
+  pub each-pulse : (k : ℕ) → k < pulses m (first o) → (let c = commandAt m (first o) k in
+      steps (suc k) (begun m o) .machine ≡ after (steps k (begun m o) .machine) (c .panel) (c .lines))
+  each-pulse k h = ap (λ (s : State). s .machine) (steps-last k (begun m o)) ∙ course .gives k h .leaves
 
   -- further steps are refused, and change nothing
   pub stays-over : (k : ℕ) → steps (pulses m (first o) + k) (begun m o) ≡ on (ended m o) Nothing
@@ -49,13 +49,18 @@ module _ (m : Machine) (o : Job) (accepted : Accepted m o) where
       ∙ steps-idle k (ended m o)
 
   -- the number of steps given until no job is held
-  taken : (k most : ℕ) (s : State) → ((j : ℕ) → j < k → Gives (steps j s)) → steps k s .held ≡ Nothing → k < most → stepsTaken most s ≡ k
+  goes-on : (h : Held) (k : ℕ) → (h ≡ Nothing → ⊥) → goOn h k ≡ suc k
+  goes-on Nothing k n = absurd (n refl)
+  goes-on (Holds q) k n = refl
+
+  taken : (c : ℕ → Command) (k most : ℕ) (s : State) → ((j : ℕ) → j < k → Gives (c j) (steps j s)) → steps k s .held ≡ Nothing → k < most
+      → stepsTaken most s ≡ k
   unfolding steps stepsTaken
-  taken k zero s g e h = absurd (omega arith)
-  taken zero (suc most) s g e h = rw e
-  taken (suc k) (suc most) s g e h =
-      ap (λ (q : Held). goOn q (stepsTaken most (stepped s))) (g 0 (omega arith) .holds)
-      ∙ ap suc (taken k most (stepped s) (λ j l. g (suc j) (omega arith)) e (omega arith))
+  taken c k zero s g e h = absurd (omega arith)
+  taken c zero (suc most) s g e h = rw e
+  taken c (suc k) (suc most) s g e h =
+      goes-on (s .held) (stepsTaken most (stepped s)) (held-given (s .machine) (s .held) (g 0 (omega arith) .answers))
+      ∙ ap suc (taken (λ j. c (suc j)) k most (stepped s) (λ j l. g (suc j) (omega arith)) e (omega arith))
 
   pub steps-taken : (most : ℕ) → pulses m (first o) < most → stepsTaken most (begun m o) ≡ pulses m (first o)
-  steps-taken most h = taken (pulses m (first o)) most (begun m o) (course .gives) (course .over) h
+  steps-taken most h = taken (commandAt m (first o)) (pulses m (first o)) most (begun m o) (course .gives) (course .over) h

@@ -1,20 +1,23 @@
 -- Greatest of A: X marks the selected words with the greatest value, after 1 + a pulses and one for each 1 of that value.
 use Prim.Native.Nat.{ℕ, _+_, _-_, _^_, _<_}
 use mathlib.Core.Path.{_≡_, refl, sym, ap, ap₂, _∙_}
-use mathlib.Core.List.{List}
+use mathlib.Core.List.{List, _∷_}
 use native.Mathlib.Nat.{div-one}
 use native.Mathlib.Omega.{arith}
 use lib.Dec.{eqb}
+use lib.ListN.{length}
 use lib.Pow.{pow-pos}
 use Rattle.laws.specs.Bits.{bit}
+use Rattle.laws.proofs.Bits.{digit-at}
 use Rattle.machine.specs.declared.Check.the-variants.{Passed}
 use Rattle.machine.specs.Machine.{Machine}
 use Rattle.job_plans.specs.declared.Job.{Job}
 use Rattle.job_plans.specs.Fields.{greatest, kindOf, extremeCheck, usedCheck}
 use Rattle.job_plans.specs.Places.{first}
-use Rattle.job_plans.specs.Commands.{bitOf}
+use Rattle.job_plans.specs.declared.Command.{Command}
+use Rattle.job_plans.specs.Commands.{bitOf, command, opening}
 use Rattle.job_tally.specs.Totals.{ones, valueOf, values, greatestOf, pulses}
-use Rattle.ends.specs.Ends.{Accepted, word, Course, ended, Marks}
+use Rattle.ends.specs.Ends.{Accepted, word, fromTop, commandsOf, Course, ended, Marks}
 use Rattle.ends.proofs.Agreeing.{agrees, agrees-one, one-here}
 use Rattle.ends.proofs.Parts.{value-lt, value-bit}
 use Rattle.ends.proofs.Machines.{same}
@@ -22,6 +25,7 @@ use Rattle.ends.proofs.Fields.{ExtremeFields, extreme-fields}
 use Rattle.ends.proofs.Best.{greatest-bounds, greatest-has, greatest-lt, values-like}
 use Rattle.ends.proofs.Trials.{Best}
 use Rattle.ends.proofs.Extreme.{Ended, extreme-ends}
+use Rattle.ends.proofs.Orders.{top-length}
 use Rattle.ends.proofs.Plans.{most, held, first-is, plan}
 use Rattle.ends.proofs.Starts.{begins, Whole, whole-course, whole-ended}
 
@@ -62,8 +66,20 @@ module _ (m : Machine) (o : Job) (accepted : Accepted m o) (kind : kindOf (o .ki
       rw (first-is o most kind)
       (rw kind (ap (λ (vs : List ℕ). 1 + o .a .width + ones (o .a .width) (greatestOf vs)) (values-like o (held o) refl refl refl (m .words) (m .responses))))
 
+  -- the opening, and at each place the trial and, for each 1 of the greatest, the search after it
+  commands : commandsOf m (first o) ≡ command (held o) ∷ fromTop (held o) (bit top) (o .a .width)
+  unfolding commandsOf command
+  commands =
+      rw (first-is o most kind)
+      (rw kind (ap (λ (vs : List ℕ). opening (held o) ∷ fromTop (held o) (bit (greatestOf vs)) (o .a .width))
+      (values-like o (held o) refl refl refl (m .words) (m .responses))))
+
   whole : Whole m o (done .end)
-  whole = rw (greatest-pulses, first-is o most kind) (done .run)
+  whole = record {
+    many = ap (λ (ks : List Command). length ks) commands
+        ∙ omega (arith, top-length (held o) (bit top) (digit-at top) (o .a .width), greatest-pulses);
+    run = rw (commands, first-is o most kind) (done .run);
+  }
 
   -- every step gives its command until the job is over
   pub greatest-course : Course m o

@@ -21,6 +21,7 @@ pub mod ScaledAdd
 pub mod ProductPlaces
 pub mod Pairs
 pub mod ProductSums
+pub mod Orders
 pub mod Product
 -- greatest and smallest
 pub mod Narrowing
@@ -30,6 +31,7 @@ pub mod Extreme
 pub mod Plans
 pub mod Greatest
 pub mod Smallest
+pub mod Cases
 -- every kind
 pub mod Ends
 pub mod Firsts

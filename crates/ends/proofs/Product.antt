@@ -1,6 +1,8 @@
 -- Product: "P becomes P+A·B", after twice the number of pairs i, j with i+j below p.
 use Prim.Native.Nat.{ℕ, zero, suc, _+_, _*_, _<_}
-use mathlib.Core.Path.{_≡_, refl}
+use mathlib.Core.Path.{_≡_, refl, sym, ap, _∙_}
+use mathlib.Core.List.{List}
+use lib.ListN.{length}
 use native.Mathlib.Omega.{arith}
 use lib.Dec.{ltb}
 use Rattle.laws.specs.Bits.{digit}
@@ -8,17 +10,19 @@ use Rattle.machine.specs.declared.Check.the-variants.{Passed}
 use Rattle.machine.specs.Machine.{Machine}
 use Rattle.job_plans.specs.declared.Job.{Job}
 use Rattle.job_plans.specs.declared.Held.the-variants.{Holds}
+use Rattle.job_plans.specs.declared.Command.{Command}
 use Rattle.job_plans.specs.Fields.{product, kindOf, productCheck, usedCheck}
 use Rattle.job_plans.specs.Places.{first, firstFor, moved}
 use Rattle.job_tally.specs.Totals.{sumBelow, valueOf, pulses}
-use Rattle.ends.specs.Ends.{Accepted, Course, ended, productGain, Adds}
+use Rattle.ends.specs.Ends.{Accepted, commandsOf, Course, ended, productGain, Adds}
 use Rattle.ends.proofs.Fields.{ProductFields, product-fields}
 use Rattle.ends.proofs.Passing.{adds-like}
-use Rattle.ends.proofs.Visits.{start, Visited, visits}
+use Rattle.ends.proofs.Visits.{start, both, Visited, visits}
 use Rattle.ends.proofs.ScaledPlaces.{lesser}
 use Rattle.ends.proofs.ProductPlaces.{rowOf, rows, starts-row, product-route}
 use Rattle.ends.proofs.Pairs.{pairs-are}
 use Rattle.ends.proofs.ProductSums.{product-sum}
+use Rattle.ends.proofs.Orders.{both-length, both-rows}
 use Rattle.ends.proofs.Starts.{begins, Whole, whole-course, whole-ended}
 
 -- the job held after the start
@@ -52,11 +56,20 @@ module _ (m : Machine) (o : Job) (accepted : Accepted m o) (kind : kindOf (o .ki
   unfolding pulses
   product-pulses = rw first-is (rw kind refl)
 
+  -- both of each place
+  commands : commandsOf m (first o) ≡ both (held o) (rows (held o) 0 (lesser o))
+  unfolding commandsOf
+  commands = rw first-is (rw kind (sym (both-rows (held o) 0 (lesser o))))
+
   whole : Whole m o (visited .end)
   whole =
       let some : 0 < lesser o = omega (arith, fields .both .a .some, fields .both .p .some) in
       let row : 0 < rowOf (held o) 0 = omega (arith, fields .b .some, fields .both .p .some) in
-      rw (product-pulses, first-is) (rw (pairs-are (held o), starts (held o) (lesser o) some row) at (visited .run))
+      record {
+        many = ap (λ (ks : List Command). length ks) commands
+            ∙ omega (arith, both-length (held o) (rows (held o) 0 (lesser o)), pairs-are (held o), product-pulses);
+        run = rw (commands, first-is) (rw (starts (held o) (lesser o) some row) at (visited .run));
+      }
 
   -- every step gives its command until the job is over
   pub product-course : Course m o

@@ -1,21 +1,25 @@
 -- Scaled add: "P becomes P+c·A", after 2·min(a,p) pulses.
 use Prim.Native.Nat.{ℕ, zero, suc, _+_, _*_, _%_, _^_, _<_, min}
-use mathlib.Core.Path.{_≡_, refl, _∙_}
+use mathlib.Core.Path.{_≡_, refl, sym, ap, _∙_}
+use mathlib.Core.List.{List}
+use lib.ListN.{length}
 use native.Mathlib.Omega.{arith}
 use Rattle.machine.specs.declared.Check.the-variants.{Passed}
 use Rattle.machine.specs.Machine.{Machine}
 use Rattle.job_plans.specs.declared.Job.{Job}
 use Rattle.job_plans.specs.declared.Held.the-variants.{Holds}
+use Rattle.job_plans.specs.declared.Command.{Command}
 use Rattle.job_plans.specs.Fields.{scaledAdd, kindOf, scaledAddCheck, usedCheck}
 use Rattle.job_plans.specs.Places.{first, firstFor, moved}
 use Rattle.job_tally.specs.Totals.{valueOf, pulses}
-use Rattle.ends.specs.Ends.{Accepted, Course, ended, scaledGain, Adds}
+use Rattle.ends.specs.Ends.{Accepted, commandsOf, Course, ended, scaledGain, Adds}
 use Rattle.ends.proofs.Fields.{AddFields, add-fields}
 use Rattle.ends.proofs.Passing.{adds-like}
 use Rattle.ends.proofs.Parts.{part}
-use Rattle.ends.proofs.Visits.{total, start, Visited, visits}
+use Rattle.ends.proofs.Visits.{total, start, both, Visited, visits}
 use Rattle.ends.proofs.ScaledPlaces.{ups, lesser, ups-length, scaled-route}
 use Rattle.ends.proofs.Sums.{scaled-sum, cut-a}
+use Rattle.ends.proofs.Orders.{both-length, both-ups}
 use Rattle.ends.proofs.Starts.{begins, Whole, whole-course, whole-ended}
 
 -- the job held after the start
@@ -57,10 +61,19 @@ module _ (m : Machine) (o : Job) (accepted : Accepted m o) (kind : kindOf (o .ki
   unfolding pulses
   scaled-add-pulses = rw first-is (rw kind refl)
 
+  -- both of each place
+  commands : commandsOf m (first o) ≡ both (held o) (ups (held o) 0 (lesser o))
+  unfolding commandsOf
+  commands = rw first-is (rw kind (sym (both-ups (held o) 0 (lesser o))))
+
   whole : Whole m o (visited .end)
   whole =
       let some : 0 < lesser o = omega (arith, fields .a .some, fields .p .some) in
-      rw (scaled-add-pulses, first-is) (rw (ups-length (held o) 0 (lesser o), starts (held o) (lesser o) some) at (visited .run))
+      record {
+        many = ap (λ (ks : List Command). length ks) commands
+            ∙ omega (arith, both-length (held o) (ups (held o) 0 (lesser o)), ups-length (held o) 0 (lesser o), scaled-add-pulses);
+        run = rw (commands, first-is) (rw (starts (held o) (lesser o) some) at (visited .run));
+      }
 
   -- every step gives its command until the job is over
   pub scaled-add-course : Course m o

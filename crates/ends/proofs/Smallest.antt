@@ -3,10 +3,11 @@
 use Prim.Native.Nat.{ℕ, _+_, _-_, _^_, _≤_, _<_}
 use mathlib.Core.Path.{_≡_, refl, sym, ap, ap₂, _∙_}
 use mathlib.Core.Bool.{Bool, true, false, _&&_}
-use mathlib.Core.List.{List}
+use mathlib.Core.List.{List, _∷_}
 use native.Mathlib.Nat.{div-one}
 use native.Mathlib.Omega.{arith}
 use lib.Dec.{eqb}
+use lib.ListN.{length}
 use lib.Pow.{pow-pos}
 use borrow.Author.Tests.{eq-eqb, ne-eqb, eqb-true, eqb-false}
 use Rattle.laws.specs.Bits.{bit, digit}
@@ -17,9 +18,10 @@ use Rattle.machine.specs.Machine.{Machine}
 use Rattle.job_plans.specs.declared.Job.{Job}
 use Rattle.job_plans.specs.Fields.{smallest, kindOf, extremeCheck, usedCheck}
 use Rattle.job_plans.specs.Places.{first}
-use Rattle.job_plans.specs.Commands.{bitOf}
+use Rattle.job_plans.specs.declared.Command.{Command}
+use Rattle.job_plans.specs.Commands.{bitOf, command, opening}
 use Rattle.job_tally.specs.Totals.{ones, zeros, valueOf, values, smallestOf, pulses}
-use Rattle.ends.specs.Ends.{Accepted, word, chosen, Course, ended, Marks}
+use Rattle.ends.specs.Ends.{Accepted, word, chosen, fromTop, commandsOf, Course, ended, Marks}
 use Rattle.ends.proofs.Agreeing.{agrees, agrees-one}
 use Rattle.ends.proofs.Parts.{value-lt, value-bit}
 use Rattle.ends.proofs.Machines.{same}
@@ -28,6 +30,7 @@ use Rattle.ends.proofs.Fields.{ExtremeFields, extreme-fields}
 use Rattle.ends.proofs.Best.{smallest-le, smallest-bounds, smallest-has, values-like}
 use Rattle.ends.proofs.Trials.{Best}
 use Rattle.ends.proofs.Extreme.{Ended, extreme-ends}
+use Rattle.ends.proofs.Orders.{top-like, top-length}
 use Rattle.ends.proofs.Plans.{least, held, wanted, first-is, plan}
 use Rattle.ends.proofs.Starts.{begins, Whole, whole-course, whole-ended}
 
@@ -85,7 +88,7 @@ module _ (m : Machine) (o : Job) (accepted : Accepted m o) (kind : kindOf (o .ki
   done = extreme-ends m (begins m o accepted .sound) (held o) fields (wanted smallest o) mirror (all-ones - bottom) (plan (m .width) o smallest least kind used) best
 
   -- "(of zeros in the smallest)"
-  zeros-are : zeros (o .a .width) bottom ≡ ones (o .a .width) (all-ones - bottom)
+  pub zeros-are : zeros (o .a .width) bottom ≡ ones (o .a .width) (all-ones - bottom)
   zeros-are = sum-like (o .a .width) _ _ (λ i l. sym (not-bit (o .a .width) bottom i (omega (arith, low-top, pow-pos (o .a .width))) l))
 
   -- "1+a plus, if any word is selected, the number of ones in the greatest syllable (of zeros in the smallest)"
@@ -95,8 +98,22 @@ module _ (m : Machine) (o : Job) (accepted : Accepted m o) (kind : kindOf (o .ki
       rw (first-is o least kind)
       (rw kind (ap (λ (vs : List ℕ). 1 + o .a .width + zeros (o .a .width) (smallestOf all-ones vs)) (values-like o (held o) refl refl refl (m .words) (m .responses))))
 
+  -- the opening, and at each place the trial and, for each 0 of the smallest, the search after it
+  commands : commandsOf m (first o) ≡ command (held o) ∷ fromTop (held o) (bit (all-ones - bottom)) (o .a .width)
+  unfolding commandsOf command
+  commands =
+      rw (first-is o least kind)
+      (rw kind (ap (λ (vs : List ℕ). opening (held o) ∷ fromTop (held o) (λ i. 1 - bit (smallestOf all-ones vs) i) (o .a .width))
+      (values-like o (held o) refl refl refl (m .words) (m .responses))))
+      ∙ ap (λ (ks : List Command). command (held o) ∷ ks)
+      (top-like (held o) _ _ (o .a .width) (λ i l. sym (not-bit (o .a .width) bottom i (omega (arith, low-top, pow-pos (o .a .width))) l)))
+
   whole : Whole m o (done .end)
-  whole = rw (smallest-pulses, first-is o least kind, zeros-are) (done .run)
+  whole = record {
+    many = ap (λ (ks : List Command). length ks) commands
+        ∙ omega (arith, top-length (held o) (bit (all-ones - bottom)) (digit-at (all-ones - bottom)) (o .a .width), smallest-pulses, zeros-are);
+    run = rw (commands, first-is o least kind) (done .run);
+  }
 
   -- every step gives its command until the job is over
   pub smallest-course : Course m o

@@ -1,5 +1,7 @@
 -- What an accepted start shows, and a run of the stated length as the job's whole course.
-use mathlib.Core.Path.{_≡_, refl, ap}
+use Prim.Native.Nat.{ℕ}
+use mathlib.Core.Path.{_≡_, refl, sym, ap, _∙_}
+use lib.ListN.{length}
 use Rattle.machine.specs.declared.Check.{Check}
 use Rattle.machine.specs.declared.Check.the-variants as check
 use Rattle.machine.specs.Machine.{Machine}
@@ -13,8 +15,9 @@ use Rattle.job_plans.specs.Fields.{usedCheck}
 use Rattle.job_plans.specs.Places.{first}
 use Rattle.jobs.specs.Calls.{freeCheck, startCheck, startOf}
 use Rattle.job_tally.specs.Totals.{pulses}
-use Rattle.jobs.specs.Runs.{State}
-use Rattle.ends.specs.Ends.{Accepted, begun, Course, ended}
+use Rattle.job_plans.specs.Commands.{command}
+use Rattle.jobs.specs.Runs.{State, steps}
+use Rattle.ends.specs.Ends.{Accepted, begun, commandsOf, Course, ended}
 use Rattle.ends.proofs.Machines.{passes}
 use Rattle.ends.proofs.Steps.{on, Run, run-ends, run-gives}
 
@@ -48,16 +51,25 @@ accepted-is m h o q e = go h (machineCheck m) (usedCheck (m .width) o) e
     go (Holds p) check.Passed (check.Refused r) e = (cc, cc)
     go h (check.Refused r) u e = (cc, cc)
 
--- the stated number of accepted steps, at whose end no job is held
-abbrev pub Whole : Machine → Job → Machine → Type 0
-Whole m o e = Run (pulses m (first o)) (begun m o) (on e Nothing)
+-- so it would be accepted with none held
+pub started-accepted : (m : Machine) (h : Held) (o q : Job) → startOf m h o ≡ started.Holds q → Accepted m o
+started-accepted m h o q e = let p = accepted-is m h o q e in ap (λ (z : Held). startOf m z o) (sym (p .0)) ∙ e ∙ ap started.Holds (p .1)
+
+-- steps that give the job's commands, as many as stated, at whose end no job is held
+pub record Whole (m : Machine) (o : Job) (e : Machine) : Type 0 where
+  pub many : length (commandsOf m (first o)) ≡ pulses m (first o)
+  pub run : Run (commandsOf m (first o)) (begun m o) (on e Nothing)
+
+whole-steps : (m : Machine) (o : Job) (e : Machine) → Whole m o e → steps (pulses m (first o)) (begun m o) ≡ on e Nothing
+whole-steps m o e r = ap (λ (k : ℕ). steps k (begun m o)) (sym (r .many)) ∙ run-ends (r .run)
 
 pub whole-ended : (m : Machine) (o : Job) (e : Machine) → Whole m o e → ended m o ≡ e
-whole-ended m o e r = ap (λ (s : State). s .machine) (run-ends r)
+whole-ended m o e r = ap (λ (s : State). s .machine) (whole-steps m o e r)
 
 pub whole-course : (m : Machine) (o : Job) (e : Machine) → Whole m o e → Sound e → Course m o
 whole-course m o e r s = record {
-  gives = run-gives r;
-  over = ap (λ (s : State). s .held) (run-ends r);
+  many = r .many;
+  gives = λ k h. run-gives (r .run) (command (first o)) k (rw (r .many) h);
+  over = ap (λ (s : State). s .held) (whole-steps m o e r);
   passes = rw (whole-ended m o e r) (passes e s);
 }

@@ -1,10 +1,8 @@
 -- An adding job visits its places in order: at each a trial search and a multiadd, and then it is over.
-use Prim.Native.Nat.{ℕ, suc, _+_, _*_, _^_, _<_}
+use Prim.Native.Nat.{ℕ, _+_, _*_, _^_, _<_}
 use mathlib.Core.Path.{_≡_, refl, ap₂, _∙_}
 use mathlib.Core.Bool.{Bool}
 use mathlib.Core.List.{List, [], _∷_}
-use native.Mathlib.Omega.{arith}
-use lib.ListN.{length}
 use Rattle.laws.specs.Bits.{bit, digit}
 use Rattle.machine.specs.declared.Check.the-variants.{Passed}
 use Rattle.machine.specs.Machine.{Machine}
@@ -13,6 +11,7 @@ use Rattle.job_plans.specs.declared.Job.{Job}
 use Rattle.job_plans.specs.declared.Held.{Held}
 use Rattle.job_plans.specs.declared.Held.the-variants.{Nothing, Holds}
 use Rattle.job_plans.specs.Places.{heldCheck, moved, next}
+use Rattle.job_plans.specs.declared.Command.{Command}
 use Rattle.job_plans.specs.Commands.{command, look, plus}
 use Rattle.ends.specs.Ends.{Outside, Adds}
 use Rattle.ends.proofs.Agreeing.{agrees}
@@ -61,10 +60,15 @@ total-kept n b [] r w x h = refl
 total-kept n b (q ∷ qs) r w x h =
     ap₂ (λ (t : Bool) (u : ℕ). digit t * q .value + u) (r .0 .kept w x h) (total-kept n b qs (r .2) w x h)
 
+-- both commands of each stop
+unfoldable pub both : Job → List Stop → List Command
+both b [] = []
+both b (q ∷ qs) = command (moved b 1 (q .i) (q .j)) ∷ command (moved b 2 (q .i) (q .j)) ∷ both b qs
+
 -- two pulses for each stop: none is refused, the last leaves no job held, and each word's P gains what its open gates add
 pub record Visited (b : Job) (qs : List Stop) (m : Machine) : Type 0 where
   pub end : Machine
-  pub run : Run (2 * length qs) (on m (start b qs)) (on end Nothing)
+  pub run : Run (both b qs) (on m (start b qs)) (on end Nothing)
   pub sound : Sound end
   pub adds : Adds b (total qs) m end
 
@@ -91,21 +95,20 @@ module _ (b : Job) (y-works : Working (b .care) (b .y)) where
   }
 
   pub visits : (n : ℕ) → Inside n (b .p) → (qs : List Stop) → Route n b qs → (m : Machine) → Sound m → m .width ≡ n → Visited b qs m
-  unfolding total
+  unfolding total both
   visits n p [] r m s e = record { end = m; run = stay; sound = s; adds = adds-none b y-works m }
   visits n p (q ∷ qs) r m s e =
       let g : Good (m .width) b q = rw e (r .0) in
       let z = stopped m q s (rw e p) g in
       let w₂ : after₂ m q .width ≡ n = z .adds .size .width ∙ e in
       let v = visits n p qs (r .2) (after₂ m q) (z .sound₂) w₂ in
-      let l : 2 * length (q ∷ qs) ≡ suc (suc (2 * length qs)) = omega arith in
       let second : heldCheck (after₁ m q .width) (moved b 2 (q .i) (q .j)) ≡ Passed = rw (z .width₁, e) (r .0 .second-fits) in
       record {
         end = v .end;
-        run = rw l (step-then m (moved b 1 (q .i) (q .j)) (on (v .end) Nothing) s (g .first-fits)
+        run = step-then m (moved b 1 (q .i) (q .j)) (on (v .end) Nothing) s (g .first-fits)
             (rw (r .0 .onward (countedBy m (moved b 1 (q .i) (q .j))))
             (step-then (after₁ m q) (moved b 2 (q .i) (q .j)) (on (v .end) Nothing) (z .sound₁) second
-            (rw (r .1 (countedBy (after₁ m q) (moved b 2 (q .i) (q .j)))) (v .run)))));
+            (rw (r .1 (countedBy (after₁ m q) (moved b 2 (q .i) (q .j)))) (v .run))));
         sound = v .sound;
         adds = adds-both b y-works _ (total qs) m (after₂ m q) (v .end) (total-kept n b qs (r .2)) (z .adds) (v .adds);
       }

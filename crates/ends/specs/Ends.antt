@@ -1,25 +1,29 @@
 -- Document 01, 'Jobs': the words in which a job's end is told.
-use Prim.Native.Nat.{ℕ, _+_, _*_, _%_, _^_, _≤_, _<_}
+use Prim.Native.Nat.{ℕ, zero, suc, _+_, _-_, _*_, _%_, _^_, _≤_, _<_, min}
 use mathlib.Core.Path.{_≡_}
 use mathlib.Core.Bool.{Bool, true, false, _&&_}
 use mathlib.Core.Logic.{_⊎_}
+use mathlib.Core.List.{List, [], _∷_, _++_}
 use lib.Dec.{eqb}
 use lib.ListN.{length, getD}
-use Rattle.laws.specs.Bits.{bit, digit}
+use Rattle.laws.specs.Bits.{bit, pick, digit}
 use Rattle.machine.specs.declared.Check.the-variants as check
+use Rattle.machine.specs.declared.Answer.the-variants as pulse
 use Rattle.machine.specs.Machine.{Machine, responseBits, selected}
 pub use Rattle.machine.specs.Machine.{response}
-use Rattle.machine.specs.Pulse.{countOf, pulsed}
-use Rattle.machine.specs.Refusals.{machineCheck}
+use Rattle.machine.specs.Refusals.{machineCheck, pulseCheck, answerOf, after}
 use Rattle.job_plans.specs.declared.Span.{Span}
 use Rattle.job_plans.specs.declared.Job.{Job}
+use Rattle.job_plans.specs.declared.Held.{Held}
 use Rattle.job_plans.specs.declared.Held.the-variants.{Nothing, Holds}
+use Rattle.job_plans.specs.declared.Command.{Command}
 use Rattle.jobs.specs.declared.Started.the-variants as started
 use Rattle.jobs.specs.declared.Stepped.the-variants as answer
-use Rattle.job_plans.specs.Places.{first, next}
-use Rattle.job_plans.specs.Commands.{command}
+use Rattle.job_plans.specs.Fields.{Kind, greatest, smallest, scaledAdd, product, unknown, kindOf}
+use Rattle.job_plans.specs.Places.{first, moved}
+use Rattle.job_plans.specs.Commands.{command, opening}
 use Rattle.jobs.specs.Calls.{startOf, stepOf}
-use Rattle.job_tally.specs.Totals.{valueOf, pulses}
+use Rattle.job_tally.specs.Totals.{valueOf, values, greatestOf, smallestOf, pulses}
 use Rattle.jobs.specs.Runs.{State, stepped, steps}
 
 -- word k's content
@@ -44,23 +48,82 @@ Outside s i = (i < s .low .0) ⊎ (s .low .0 + s .width ≤ i)
 
 -- ---- one step
 
--- "A job step answers the command it gave, and the machine after it is that command's pulse."
-pub record Gives (s : State) : Type 0 where
-  pub job : Job
-  pub holds : s .held ≡ Holds job
-  pub answers : (let m = s .machine in let k = command job in let c = countOf m (k .panel) (k .lines) in
-      stepOf m (s .held) ≡ answer.Gave k c (next job c))
-  pub pulse : stepped s .machine ≡ pulsed (s .machine) (command job .panel) (command job .lines)
+-- "A job step answers the command it gave, and the machine after it is that command's pulse": the call pulse accepts k; the step answers k and the
+-- count that the call answers; and the machine after the step is the one that the call leaves
+pub record Gives (k : Command) (s : State) : Type 0 where
+  pub count : ℕ
+  pub then : Held
+  pub accepted : pulseCheck (s .machine) (k .panel) (k .lines) ≡ check.Passed
+  pub counts : answerOf (s .machine) (k .panel) (k .lines) ≡ pulse.Done count 0
+  pub answers : stepOf (s .machine) (s .held) ≡ answer.Gave k count then
+  pub leaves : stepped s .machine ≡ after (s .machine) (k .panel) (k .lines)
+
+-- ---- a job's commands in the table's order; o is the job as its start leaves it
+
+-- "for each place from the top": the trial and, where digit i of the extreme says that any matched, the search after it; the places below k
+unfoldable pub fromTop : Job → (ℕ → ℕ) → ℕ → List Command
+fromTop o matched zero = []
+fromTop o matched (suc i) = command (moved o 1 i 0) ∷ (pick (eqb (matched i) 1) (command (moved o 2 i 0) ∷ []) [] ++ fromTop o matched i)
+
+-- the trial and the add at k places of row i, from j on
+unfoldable pub row : Job → ℕ → ℕ → ℕ → List Command
+row o i j zero = []
+row o i j (suc k) = command (moved o 1 i j) ∷ command (moved o 2 i j) ∷ row o i (suc j) k
+
+-- k rows from i on, of so many places each
+unfoldable pub rows : Job → (ℕ → ℕ) → ℕ → ℕ → List Command
+rows o places i zero = []
+rows o places i (suc k) = row o i 0 (places i) ++ rows o places (suc i) k
+
+-- extremes: a trial for the greatest matches where the greatest has a 1, for the smallest where the smallest has a 0
+-- "for place i from 0 below the smaller of the widths a and p"; "for i from 0 below a, and within it j from 0 below b, with i+j below p"
+abbrev pub commandsFor : Kind → Machine → Job → List Command
+commandsFor greatest m o = opening o ∷ fromTop o (bit (greatestOf (values o (m .words) (m .responses)))) (o .a .width)
+commandsFor smallest m o =
+    opening o ∷ fromTop o (λ i. 1 - bit (smallestOf (2 ^ o .a .width - 1) (values o (m .words) (m .responses))) i) (o .a .width)
+commandsFor scaledAdd m o = rows o (λ i. 1) 0 (min (o .a .width) (o .p .width))
+commandsFor product m o = rows o (λ i. min (o .b .width) (o .p .width - i)) 0 (min (o .a .width) (o .p .width))
+commandsFor unknown m o = []
+
+unfoldable pub commandsOf : Machine → Job → List Command
+commandsOf m o = commandsFor (kindOf (o .kind)) m o
+
+-- the command of step k
+abbrev pub commandAt : Machine → Job → ℕ → Command
+commandAt m o k = getD (commandsOf m o) k (command o)
 
 -- the machine at the job's end
 abbrev pub ended : Machine → Job → Machine
 ended m o = steps (pulses m (first o)) (begun m o) .machine
 
--- each of the stated pulses is a step that gives its command, and after them the job is over, on a machine that still passes 1 to 3
+-- the commands are as many as the stated pulses, each step gives its own, and after them the job is over, on a machine that still passes 1 to 3
 pub record Course (m : Machine) (o : Job) : Type 0 where
-  pub gives : (k : ℕ) → k < pulses m (first o) → Gives (steps k (begun m o))
+  pub many : length (commandsOf m (first o)) ≡ pulses m (first o)
+  pub gives : (k : ℕ) → k < pulses m (first o) → Gives (commandAt m (first o) k) (steps k (begun m o))
   pub over : steps (pulses m (first o)) (begun m o) .held ≡ Nothing
   pub passes : machineCheck (ended m o) ≡ check.Passed
+
+-- ---- "the greatest syllable", "the smallest", where any word is selected
+
+-- v is A's value in a selected word, and in no selected word it is greater
+pub record IsGreatest (o : Job) (m : Machine) (v : ℕ) : Type 0 where
+  pub at : ℕ
+  pub within : at < length (m .words)
+  pub selected : chosen m o at ≡ true
+  pub value : valueOf (o .a) (word m at) ≡ v
+  pub bounds : (k : ℕ) → k < length (m .words) → chosen m o k ≡ true → valueOf (o .a) (word m k) ≤ v
+
+-- v is A's value in a selected word, and in no selected word it is smaller
+pub record IsSmallest (o : Job) (m : Machine) (v : ℕ) : Type 0 where
+  pub at : ℕ
+  pub within : at < length (m .words)
+  pub selected : chosen m o at ≡ true
+  pub value : valueOf (o .a) (word m at) ≡ v
+  pub bounds : (k : ℕ) → k < length (m .words) → chosen m o k ≡ true → v ≤ valueOf (o .a) (word m k)
+
+-- no word is selected
+abbrev pub NoneChosen : Job → Machine → Type 0
+NoneChosen o m = (k : ℕ) → k < length (m .words) → chosen m o k ≡ false
 
 -- ---- the ends: m is the machine at the start, e at the end
 

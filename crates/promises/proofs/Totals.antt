@@ -26,7 +26,8 @@ use Rattle.jobs.specs.declared.Stepped.{Stepped}
 use Rattle.jobs.specs.declared.Stepped.the-variants as answer
 use Rattle.jobs.specs.Calls.{startCheck, stepOf}
 use Rattle.jobs.specs.Runs.{State, stepped, steps}
-use Rattle.ends.specs.Ends.{Accepted, begun, Gives}
+use Rattle.job_plans.specs.declared.Command.{Command}
+use Rattle.ends.specs.Ends.{Accepted, begun, Gives, commandAt}
 use Rattle.ends.proofs.Starts.{accepted-by}
 use Rattle.ends.proofs.Ends.{course}
 use Rattle.ends.proofs.Firsts.{is-first, few-pulses}
@@ -42,14 +43,15 @@ nothing-more : (why : Refusal) (c : Check) (k : ℕ) → oneMore (answerBy c ans
 nothing-more why Passed k = refl
 nothing-more why (Refused r) k = refl
 
-all-accepted : (k n : ℕ) (s : State) → ((j : ℕ) → j < k → Gives (steps j s)) → steps k s .held ≡ Nothing → k ≤ n → accepted n s ≡ k
+all-accepted : (c : ℕ → Command) (k n : ℕ) (s : State) → ((j : ℕ) → j < k → Gives (c j) (steps j s)) → steps k s .held ≡ Nothing → k ≤ n
+    → accepted n s ≡ k
 unfolding steps accepted stepOf
-all-accepted zero zero s g e h = refl
-all-accepted (suc k) zero s g e h = absurd (omega arith)
-all-accepted zero (suc n) s g e h = rw e (nothing-more noneHeld (stepCheck (s .machine) Nothing) (accepted n (stepped (record { machine = s .machine; held = Nothing }))))
-all-accepted (suc k) (suc n) s g e h =
+all-accepted c zero zero s g e h = refl
+all-accepted c (suc k) zero s g e h = absurd (omega arith)
+all-accepted c zero (suc n) s g e h = rw e (nothing-more noneHeld (stepCheck (s .machine) Nothing) (accepted n (stepped (record { machine = s .machine; held = Nothing }))))
+all-accepted c (suc k) (suc n) s g e h =
     ap (λ (a : Stepped). oneMore a (accepted n (stepped s))) (g 0 (omega arith) .answers)
-    ∙ ap suc (all-accepted k n (stepped s) (λ j l. g (suc j) (omega arith)) e (omega arith))
+    ∙ ap suc (all-accepted (λ j. c (suc j)) k n (stepped s) (λ j l. g (suc j) (omega arith)) e (omega arith))
 
 -- ---- the theorem, where a job is held
 
@@ -76,7 +78,7 @@ module _ (m : Machine) (o : Job) (ok : totalCheck m (Holds o) ≡ Passed) where
       let f : pulses m (first o) ≤ 8192 = subst (λ (q : Job). pulses m q ≤ 8192) stands (few-pulses m o (asked .0)) in
       let h : pulses m (first o) ≤ most = omega arith in
       subst (λ (q : Job). accepted most (record { machine = m; held = Holds q }) ≡ pulses m q) (sym stands)
-      (all-accepted (pulses m (first o)) most (begun m o) (c .gives) (c .over) h)
+      (all-accepted (commandAt m (first o)) (pulses m (first o)) most (begun m o) (c .gives) (c .over) h)
 
   prints : (b : Board) → ran b (stepOf m (Holds o)) (record { machine = m; held = Holds o }) .outcome
       ≡ outcome.Pulses (accepted most (record { machine = m; held = Holds o }))
