@@ -1,4 +1,4 @@
--- Over many calls: what a host stored is what it resumes (Images), jobs over stops (Jobs), rounds over stops (Standing, Rounds), two side by side
+-- Over many calls: what a host stored is what it resumes (Images), jobs over stops (Jobs), rounds over stops (Standing, Rounds, Book), two side by side
 -- (Both), and the calls that leave a round alone (Elsewhere, Leaving) and the held job in order (Staying); the rest leads up to them.
 pub mod Below
 pub mod Images
@@ -12,4 +12,5 @@ pub mod Shadow
 pub mod Counting
 pub mod Standing
 pub mod Rounds
+pub mod Book
 pub mod Both

@@ -1,11 +1,11 @@
 -- A round over stops: what stands after any events. Document 01, 'The hand-out round'.
 -- The argument: the machine's X and F bits are those that the stored answers, and the one not stored, make of the first image's, and the last stored
 -- image has those of the stored answers.
-use Prim.Native.Nat.{ℕ, zero, suc, _^_, _<_}
+use Prim.Native.Nat.{ℕ}
 use mathlib.Core.Path.{_≡_, refl, sym, ap, _∙_}
 use mathlib.Core.List.{List, [], _∷_, _++_, append-nil}
 use native.Mathlib.Omega.{arith}
-use lib.ListN.{length, set, length-set}
+use lib.ListN.{length, length-set}
 use Rattle.machine.specs.declared.WordSlice.{WordSlice}
 use Rattle.machine.specs.declared.ResponseBit.{ResponseBit}
 use Rattle.machine.specs.declared.Found.{Found}
@@ -15,23 +15,19 @@ use Rattle.machine.specs.declared.Refusal.the-variants.{Size, Width}
 use Rattle.machine.specs.declared.Check.{Check}
 use Rattle.machine.specs.declared.Check.the-variants.{Passed, Refused}
 use Rattle.machine.specs.Machine.{Machine, machine}
-use Rattle.machine.specs.Refusals.{badSize, badWidth, tooWide, _else_, refuse, refuseWord, changeBy, machineCheck, answerBy}
+use Rattle.machine.specs.Refusals.{badSize, badWidth, tooWide, _else_, refuse, refuseWord, machineCheck, answerBy}
 use Rattle.machine.specs.Resolution.{lowest}
 use Rattle.resolver.specs.declared.Resolved.the-variants as resolved
 use Rattle.resolver.specs.Answers.{asResolved}
 use Rattle.rounds.specs.declared.Verdict.{Verdict}
-use Rattle.rounds.specs.declared.Verdict.the-variants.{Done, Faulty}
 use Rattle.rounds.specs.declared.Reply.the-variants as reply
-use Rattle.rounds.specs.Round as round
-use Rattle.rounds.specs.Round.{put, roundCheck, shown, showCheck, showOf, answeredAt, answerCheck, replyOf, afterAnswer}
+use Rattle.rounds.specs.Round.{roundCheck, shown, showCheck, showOf, answeredAt, answerCheck, replyOf, afterAnswer}
 use Rattle.rounds.specs.Handout.{response, Answers, none-yet, one-more}
-use Rattle.rounds.proofs.Marks.{put-lt}
 use Rattle.rounds.proofs.Passing.{round-fits}
 use Rattle.rounds.specs.Round.{Fit}
 use Rattle.rounds.proofs.Handout.{refused-nothing}
 use Rattle.jobs.specs.Runs.{State}
-use Rattle.image_layout.specs.Sizes.{responseSize}
-use Rattle.image_layout.specs.Format.{imageOf, AreResponses}
+use Rattle.image_layout.specs.Format.{imageOf}
 use Rattle.image.specs.Calls.{Stored}
 use Rattle.hosts.specs.Images.{Stores, Resumes}
 use Rattle.hosts.specs.Rounds as events

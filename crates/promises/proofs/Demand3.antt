@@ -2,7 +2,7 @@
 -- any pulse." Of rounds: Rounds
 use Prim.Native.Nat.{ℕ, zero, suc, _+_, _*_, _-_, _^_, _≤_, _<_, min}
 use mathlib.Core.Path.{_≡_, refl, ap}
-use mathlib.Core.Bool.{true, false, _&&_}
+use mathlib.Core.Bool.{true, _&&_}
 use native.Mathlib.Omega.{arith}
 use borrow.Author.Tests.{eq-eqb}
 use mathlib.Core.List.{List}
@@ -13,15 +13,13 @@ use Rattle.machine.specs.Machine.{Machine}
 use Rattle.job_plans.specs.declared.Job.{Job}
 use Rattle.job_plans.specs.declared.Held.{Held}
 use Rattle.job_plans.specs.declared.Held.the-variants.{Nothing, Holds}
-use Rattle.job_plans.specs.declared.Command.{Command}
-use Rattle.jobs.specs.declared.Stepped.the-variants as answer
 use Rattle.jobs.specs.declared.Started.the-variants as started
-use Rattle.jobs.specs.Calls.{startOf, stepOf, afterStep}
+use Rattle.jobs.specs.Calls.{startOf}
 use Rattle.job_tally.specs.declared.Total.the-variants as total
 use Rattle.job_plans.specs.Fields.{Kind, greatest, smallest, scaledAdd, product, unknown, kindOf}
 use Rattle.job_plans.specs.Places.{first, firstFor, atFirst}
 use Rattle.job_tally.specs.Totals.{sumBelow, ones, zeros, valueOf, values, greatestOf, smallestOf, pulses, totalCheck, totalOf}
-use Rattle.jobs.specs.Runs.{State, stepped, steps}
+use Rattle.jobs.specs.Runs.{State, steps}
 use Rattle.ends.specs.Ends.{Accepted, begun, chosen, Gives, commandsOf, commandAt, ended, IsGreatest, IsSmallest, NoneChosen, Alike, Adds, Marks}
 use Rattle.ends.proofs.Steps.{given-passed}
 use Rattle.ends.proofs.Starts.{accepted-is, started-accepted}

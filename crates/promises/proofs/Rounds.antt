@@ -31,8 +31,9 @@ use Rattle.handout.specs.Whole.{reportOf, afterRound}
 use Rattle.image_layout.specs.Format.{imageOf}
 use Rattle.hosts.specs.Images.{Stores, Resumes, Typed}
 use Rattle.hosts.specs.Rounds.{Responder, lower, Looks, Leaves, Apart, Beside, Given, wordsOf, verdictsOf, Phase, ready, showing, Entry, Hosted, stops, Both, Orderly, Shown, Finished}
-use Rattle.hosts.proofs.Rounds as over-stops
-use Rattle.hosts.proofs.Rounds.{was-next, answerable, same-again, taken-is-shown, is-next, ends, over, faulty-has, done-has, others-have, in-order, none-skipped, each-in-turn, words-in-turn, storable-round, resumable}
+use Rattle.hosts.proofs.Book as over-stops
+use Rattle.hosts.proofs.Rounds.{was-next, answerable, same-again, taken-is-shown, is-next, ends, over, faulty-has, done-has, others-have, storable-round, resumable}
+use Rattle.hosts.proofs.Book.{in-order, none-skipped, each-in-turn, words-in-turn}
 use Rattle.hosts.proofs.Both.{first-alone, second-alone, second-typed}
 use Rattle.hosts.proofs.Elsewhere.{answer-spares, round-spares}
 use Rattle.hosts.proofs.Leaving.{target-spares, lines-spare, step-spares, looks-leave}
