@@ -7,22 +7,27 @@ use mathlib.Core.List.{List, [], _∷_}
 use native.Mathlib.Omega.{arith}
 use lib.ListN.{length, getD}
 use lib.Pow.{pow-pos}
+use Rattle.laws.specs.Bits.{bit}
 use Rattle.laws.proofs.Digits.{tri}
 use Rattle.laws.proofs.Bits.{bit-none}
 use Rattle.machine.specs.Machine.{Machine, selected}
 use Rattle.job_plans.specs.declared.Job.{Job}
 use Rattle.job_plans.specs.Fields.{greatest, smallest, scaledAdd, product, kindOf}
 use Rattle.job_plans.specs.Places.{first}
+use Rattle.job_plans.specs.declared.Command.{Command}
+use Rattle.job_plans.specs.Commands.{command}
 use Rattle.job_tally.specs.Totals.{sumBelow, ones, zeros, valueOf, values, greatestOf, smallestOf, pulses}
-use Rattle.ends.specs.Ends.{Accepted, word, chosen, IsGreatest, IsSmallest, NoneChosen}
+use Rattle.ends.specs.Ends.{Accepted, word, chosen, fromTop, commandsOf, IsGreatest, IsSmallest, NoneChosen, Alike}
 use Rattle.ends.proofs.Parts.{value-lt}
 use Rattle.ends.proofs.Machines.{same}
 use Rattle.ends.proofs.Best.{greatest-bounds, greatest-has, smallest-le, smallest-bounds, smallest-has}
 use Rattle.ends.proofs.Starts.{begins}
-use Rattle.ends.proofs.Greatest.{greatest-pulses}
-use Rattle.ends.proofs.Smallest.{zeros-are, smallest-pulses}
-use Rattle.ends.proofs.ScaledAdd.{scaled-add-pulses}
-use Rattle.ends.proofs.Product.{product-pulses}
+use Rattle.ends.proofs.Plans.{held}
+use Rattle.ends.proofs.Greatest.{greatest-commands, greatest-pulses}
+use Rattle.ends.proofs.Smallest.{smallest-commands, zeros-are, smallest-pulses}
+use Rattle.ends.proofs.ScaledAdd.{scaled-add-commands}
+use Rattle.ends.proofs.Product.{product-commands}
+use Rattle.ends.proofs.Ends.{course}
 
 no-values : (o : Job) (ws rs : List ℕ) → length rs ≡ length ws → ((k : ℕ) → k < length ws → selected (o .key) (o .care) (getD rs k 0) ≡ false) → values o ws rs ≡ []
 unfolding values
@@ -125,14 +130,24 @@ module _ (m : Machine) (o : Job) (accepted : Accepted m o) where
 -- ---- "never from how many words there are": two machines, of any sizes
 
 module _ (m n : Machine) (o : Job) (on-m : Accepted m o) (on-n : Accepted n o) where
-  pub same-greatest : kindOf (o .kind) ≡ greatest → (v : ℕ) → IsGreatest o m v → IsGreatest o n v → pulses m (first o) ≡ pulses n (first o)
-  same-greatest kind v g h = greatest-some m o on-m kind v g ∙ sym (greatest-some n o on-n kind v h)
+  -- the same commands are as many
+  alike : commandsOf m (first o) ≡ commandsOf n (first o) → Alike m n o
+  alike e = (e, sym (course m o on-m .many) ∙ ap (λ (ks : List Command). length ks) e ∙ course n o on-n .many)
 
-  pub same-smallest : kindOf (o .kind) ≡ smallest → (v : ℕ) → IsSmallest o m v → IsSmallest o n v → pulses m (first o) ≡ pulses n (first o)
-  same-smallest kind v g h = smallest-some m o on-m kind v g ∙ sym (smallest-some n o on-n kind v h)
+  pub same-greatest : kindOf (o .kind) ≡ greatest → (v : ℕ) → IsGreatest o m v → IsGreatest o n v → Alike m n o
+  same-greatest kind v g h =
+      alike (greatest-commands m o on-m kind
+      ∙ ap (λ (z : ℕ). command (held o) ∷ fromTop (held o) (bit z) (o .a .width)) (is-most m o on-m v g ∙ sym (is-most n o on-n v h))
+      ∙ sym (greatest-commands n o on-n kind))
 
-  pub same-scaled-add : kindOf (o .kind) ≡ scaledAdd → pulses m (first o) ≡ pulses n (first o)
-  same-scaled-add kind = scaled-add-pulses m o on-m kind ∙ sym (scaled-add-pulses n o on-n kind)
+  pub same-smallest : kindOf (o .kind) ≡ smallest → (v : ℕ) → IsSmallest o m v → IsSmallest o n v → Alike m n o
+  same-smallest kind v g h =
+      alike (smallest-commands m o on-m kind
+      ∙ ap (λ (z : ℕ). command (held o) ∷ fromTop (held o) (bit (2 ^ o .a .width - 1 - z)) (o .a .width)) (is-least m o on-m v g ∙ sym (is-least n o on-n v h))
+      ∙ sym (smallest-commands n o on-n kind))
 
-  pub same-product : kindOf (o .kind) ≡ product → pulses m (first o) ≡ pulses n (first o)
-  same-product kind = product-pulses m o on-m kind ∙ sym (product-pulses n o on-n kind)
+  pub same-scaled-add : kindOf (o .kind) ≡ scaledAdd → Alike m n o
+  same-scaled-add kind = alike (scaled-add-commands m o on-m kind ∙ sym (scaled-add-commands n o on-n kind))
+
+  pub same-product : kindOf (o .kind) ≡ product → Alike m n o
+  same-product kind = alike (product-commands m o on-m kind ∙ sym (product-commands n o on-n kind))

@@ -17,6 +17,7 @@ use Rattle.job_plans.specs.Fields.{Kind, greatest, smallest, scaledAdd, product
 use Rattle.job_plans.specs.Places.{none, firstFor, first, atFirst, heldCheck, stepCheck}
 use Rattle.job_plans.proofs.Fair.{and-true, Fair, fair, extreme-fields, scaled-fields, product-fields}
 use Rattle.job_plans.proofs.Standing.{narrow, fair-held}
+use Rattle.job_tally.proofs.Sums.{any-ones, any-zeros}
 use Rattle.job_tally.specs.Totals.{sumBelow, values, greatestOf, smallestOf, pulsesFor, pulses}
 
 -- ---- a job that stands at its first place is the job that its start holds
@@ -93,8 +94,8 @@ few-pulses m o ok = go (kindOf (o .kind)) (fair (m .width) o (fair-held m o ok))
     w = narrow m o ok
 
     go : (k : Kind) → Fair (m .width) o k → pulsesFor k m o ≤ 8192
-    go greatest f = omega (arith, w, extreme-fields (m .width) o (f .used) .a .fits, sum-few (o .a .width) (bit (greatestOf (values o (m .words) (m .responses)))) (one-bit (greatestOf (values o (m .words) (m .responses)))))
-    go smallest f = omega (arith, w, extreme-fields (m .width) o (f .used) .a .fits, sum-few (o .a .width) (λ i. 1 - bit (smallestOf (2 ^ o .a .width - 1) (values o (m .words) (m .responses))) i) (λ i. omega arith))
+    go greatest f = omega (arith, w, extreme-fields (m .width) o (f .used) .a .fits, any-ones (o .a .width) (values o (m .words) (m .responses)), sum-few (o .a .width) (bit (greatestOf (values o (m .words) (m .responses)))) (one-bit (greatestOf (values o (m .words) (m .responses)))))
+    go smallest f = omega (arith, w, extreme-fields (m .width) o (f .used) .a .fits, any-zeros (o .a .width) (values o (m .words) (m .responses)), sum-few (o .a .width) (λ i. 1 - bit (smallestOf (2 ^ o .a .width - 1) (values o (m .words) (m .responses))) i) (λ i. omega arith))
     go scaledAdd f = omega (arith, w, scaled-fields (m .width) o (f .used) .a .fits)
     go product f =
         let p = product-fields (m .width) o (f .used) in

@@ -16,7 +16,8 @@ use Rattle.job_plans.specs.Fields.{greatest, kindOf, extremeCheck, usedCheck}
 use Rattle.job_plans.specs.Places.{first}
 use Rattle.job_plans.specs.declared.Command.{Command}
 use Rattle.job_plans.specs.Commands.{bitOf, command, opening}
-use Rattle.job_tally.specs.Totals.{ones, valueOf, values, greatestOf, pulses}
+use Rattle.job_tally.specs.Totals.{ones, valueOf, values, greatestOf, ifAny, pulses}
+use Rattle.job_tally.proofs.Sums.{any-ones}
 use Rattle.ends.specs.Ends.{Accepted, word, fromTop, commandsOf, Course, ended, Marks}
 use Rattle.ends.proofs.Agreeing.{agrees, agrees-one, one-here}
 use Rattle.ends.proofs.Parts.{value-lt, value-bit}
@@ -64,21 +65,22 @@ module _ (m : Machine) (o : Job) (accepted : Accepted m o) (kind : kindOf (o .ki
   unfolding pulses
   greatest-pulses =
       rw (first-is o most kind)
-      (rw kind (ap (λ (vs : List ℕ). 1 + o .a .width + ones (o .a .width) (greatestOf vs)) (values-like o (held o) refl refl refl (m .words) (m .responses))))
+      (rw kind (ap (λ (vs : List ℕ). 1 + o .a .width + ifAny vs (ones (o .a .width) (greatestOf vs))) (values-like o (held o) refl refl refl (m .words) (m .responses))))
+      ∙ ap (λ (k : ℕ). 1 + o .a .width + k) (any-ones (o .a .width) (values o (m .words) (m .responses)))
 
   -- the opening, and at each place the trial and, for each 1 of the greatest, the search after it
-  commands : commandsOf m (first o) ≡ command (held o) ∷ fromTop (held o) (bit top) (o .a .width)
+  pub greatest-commands : commandsOf m (first o) ≡ command (held o) ∷ fromTop (held o) (bit top) (o .a .width)
   unfolding commandsOf command
-  commands =
+  greatest-commands =
       rw (first-is o most kind)
       (rw kind (ap (λ (vs : List ℕ). opening (held o) ∷ fromTop (held o) (bit (greatestOf vs)) (o .a .width))
       (values-like o (held o) refl refl refl (m .words) (m .responses))))
 
   whole : Whole m o (done .end)
   whole = record {
-    many = ap (λ (ks : List Command). length ks) commands
+    many = ap (λ (ks : List Command). length ks) greatest-commands
         ∙ omega (arith, top-length (held o) (bit top) (digit-at top) (o .a .width), greatest-pulses);
-    run = rw (commands, first-is o most kind) (done .run);
+    run = rw (greatest-commands, first-is o most kind) (done .run);
   }
 
   -- every step gives its command until the job is over

@@ -31,7 +31,7 @@ pub mod Extreme
 pub mod Plans
 pub mod Greatest
 pub mod Smallest
-pub mod Cases
 -- every kind
 pub mod Ends
+pub mod Cases
 pub mod Firsts

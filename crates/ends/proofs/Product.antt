@@ -57,18 +57,18 @@ module _ (m : Machine) (o : Job) (accepted : Accepted m o) (kind : kindOf (o .ki
   product-pulses = rw first-is (rw kind refl)
 
   -- both of each place
-  commands : commandsOf m (first o) ≡ both (held o) (rows (held o) 0 (lesser o))
+  pub product-commands : commandsOf m (first o) ≡ both (held o) (rows (held o) 0 (lesser o))
   unfolding commandsOf
-  commands = rw first-is (rw kind (sym (both-rows (held o) 0 (lesser o))))
+  product-commands = rw first-is (rw kind (sym (both-rows (held o) 0 (lesser o))))
 
   whole : Whole m o (visited .end)
   whole =
       let some : 0 < lesser o = omega (arith, fields .both .a .some, fields .both .p .some) in
       let row : 0 < rowOf (held o) 0 = omega (arith, fields .b .some, fields .both .p .some) in
       record {
-        many = ap (λ (ks : List Command). length ks) commands
+        many = ap (λ (ks : List Command). length ks) product-commands
             ∙ omega (arith, both-length (held o) (rows (held o) 0 (lesser o)), pairs-are (held o), product-pulses);
-        run = rw (commands, first-is) (rw (starts (held o) (lesser o) some row) at (visited .run));
+        run = rw (product-commands, first-is) (rw (starts (held o) (lesser o) some row) at (visited .run));
       }
 
   -- every step gives its command until the job is over

@@ -62,17 +62,17 @@ module _ (m : Machine) (o : Job) (accepted : Accepted m o) (kind : kindOf (o .ki
   scaled-add-pulses = rw first-is (rw kind refl)
 
   -- both of each place
-  commands : commandsOf m (first o) ≡ both (held o) (ups (held o) 0 (lesser o))
+  pub scaled-add-commands : commandsOf m (first o) ≡ both (held o) (ups (held o) 0 (lesser o))
   unfolding commandsOf
-  commands = rw first-is (rw kind (sym (both-ups (held o) 0 (lesser o))))
+  scaled-add-commands = rw first-is (rw kind (sym (both-ups (held o) 0 (lesser o))))
 
   whole : Whole m o (visited .end)
   whole =
       let some : 0 < lesser o = omega (arith, fields .a .some, fields .p .some) in
       record {
-        many = ap (λ (ks : List Command). length ks) commands
+        many = ap (λ (ks : List Command). length ks) scaled-add-commands
             ∙ omega (arith, both-length (held o) (ups (held o) 0 (lesser o)), ups-length (held o) 0 (lesser o), scaled-add-pulses);
-        run = rw (commands, first-is) (rw (starts (held o) (lesser o) some) at (visited .run));
+        run = rw (scaled-add-commands, first-is) (rw (starts (held o) (lesser o) some) at (visited .run));
       }
 
   -- every step gives its command until the job is over

@@ -20,7 +20,8 @@ use Rattle.job_plans.specs.Fields.{smallest, kindOf, extremeCheck, usedCheck}
 use Rattle.job_plans.specs.Places.{first}
 use Rattle.job_plans.specs.declared.Command.{Command}
 use Rattle.job_plans.specs.Commands.{bitOf, command, opening}
-use Rattle.job_tally.specs.Totals.{ones, zeros, valueOf, values, smallestOf, pulses}
+use Rattle.job_tally.specs.Totals.{ones, zeros, valueOf, values, smallestOf, ifAny, pulses}
+use Rattle.job_tally.proofs.Sums.{any-zeros}
 use Rattle.ends.specs.Ends.{Accepted, word, chosen, fromTop, commandsOf, Course, ended, Marks}
 use Rattle.ends.proofs.Agreeing.{agrees, agrees-one}
 use Rattle.ends.proofs.Parts.{value-lt, value-bit}
@@ -96,12 +97,13 @@ module _ (m : Machine) (o : Job) (accepted : Accepted m o) (kind : kindOf (o .ki
   unfolding pulses
   smallest-pulses =
       rw (first-is o least kind)
-      (rw kind (ap (λ (vs : List ℕ). 1 + o .a .width + zeros (o .a .width) (smallestOf all-ones vs)) (values-like o (held o) refl refl refl (m .words) (m .responses))))
+      (rw kind (ap (λ (vs : List ℕ). 1 + o .a .width + ifAny vs (zeros (o .a .width) (smallestOf all-ones vs))) (values-like o (held o) refl refl refl (m .words) (m .responses))))
+      ∙ ap (λ (k : ℕ). 1 + o .a .width + k) (any-zeros (o .a .width) (values o (m .words) (m .responses)))
 
   -- the opening, and at each place the trial and, for each 0 of the smallest, the search after it
-  commands : commandsOf m (first o) ≡ command (held o) ∷ fromTop (held o) (bit (all-ones - bottom)) (o .a .width)
+  pub smallest-commands : commandsOf m (first o) ≡ command (held o) ∷ fromTop (held o) (bit (all-ones - bottom)) (o .a .width)
   unfolding commandsOf command
-  commands =
+  smallest-commands =
       rw (first-is o least kind)
       (rw kind (ap (λ (vs : List ℕ). opening (held o) ∷ fromTop (held o) (λ i. 1 - bit (smallestOf all-ones vs) i) (o .a .width))
       (values-like o (held o) refl refl refl (m .words) (m .responses))))
@@ -110,9 +112,9 @@ module _ (m : Machine) (o : Job) (accepted : Accepted m o) (kind : kindOf (o .ki
 
   whole : Whole m o (done .end)
   whole = record {
-    many = ap (λ (ks : List Command). length ks) commands
+    many = ap (λ (ks : List Command). length ks) smallest-commands
         ∙ omega (arith, top-length (held o) (bit (all-ones - bottom)) (digit-at (all-ones - bottom)) (o .a .width), smallest-pulses, zeros-are);
-    run = rw (commands, first-is o least kind) (done .run);
+    run = rw (smallest-commands, first-is o least kind) (done .run);
   }
 
   -- every step gives its command until the job is over

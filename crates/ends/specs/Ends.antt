@@ -125,6 +125,10 @@ pub record IsSmallest (o : Job) (m : Machine) (v : ℕ) : Type 0 where
 abbrev pub NoneChosen : Job → Machine → Type 0
 NoneChosen o m = (k : ℕ) → k < length (m .words) → chosen m o k ≡ false
 
+-- the job gives the same commands on both machines, and so as many
+abbrev pub Alike : Machine → Machine → Job → Type 0
+Alike m n o = (commandsOf m (first o) ≡ commandsOf n (first o)) × (pulses m (first o) ≡ pulses n (first o))
+
 -- ---- the ends: m is the machine at the start, e at the end
 
 -- nothing is added or lost

@@ -1,6 +1,7 @@
 -- Sums over places: the ones of a number as the code counts them, its zeros, and the pairs of a product.
 use Prim.Native.Nat.{ℕ, zero, suc, _+_, _-_, _%_, _^_, _≤_, _<_, min}
 use mathlib.Core.Path.{_≡_, refl, sym, ap, ap₂, _∙_}
+use mathlib.Core.List.{List, [], _∷_}
 use mathlib.Core.Logic.{_⊎_, inl, inr, ⊎-elim}
 use native.Mathlib.Nat.{mod-lt, mod-one, mod-eq-of-lt}
 use native.Mathlib.Numerals.{add-one}
@@ -12,7 +13,7 @@ use borrow.Author.Tests.{lt-ltb, le-ltb}
 use Rattle.laws.specs.Bits.{bit, digit}
 use Rattle.laws.proofs.Digits.{Bit, off, on, tri}
 use Rattle.laws.proofs.Bits.{digit-at, top-bit, not-bit}
-use Rattle.job_tally.specs.Totals.{sumBelow, ones, zeros}
+use Rattle.job_tally.specs.Totals.{sumBelow, ones, zeros, greatestOf, smallestOf, ifAny}
 
 pub sum-like : (k : ℕ) (f g : ℕ → ℕ) → ((i : ℕ) → i < k → f i ≡ g i) → sumBelow k f ≡ sumBelow k g
 unfolding sumBelow
@@ -53,6 +54,19 @@ zeros-is k v h =
 
 pub ones-few : (v : ℕ) → v < 2 ^ 64 → count.ones v ≤ 64
 ones-few v h = count.ones-le 64 v h
+
+-- of no values the greatest is 0 and the smallest all ones, which add nothing
+pub any-ones : (k : ℕ) (vs : List ℕ) → ifAny vs (ones k (greatestOf vs)) ≡ ones k (greatestOf vs)
+unfolding greatestOf count.ones count.onesIn
+any-ones k [] = ones-is k 0 (pow-pos k)
+any-ones k (v ∷ vs) = refl
+
+pub any-zeros : (k : ℕ) (vs : List ℕ) → ifAny vs (zeros k (smallestOf (2 ^ k - 1) vs)) ≡ zeros k (smallestOf (2 ^ k - 1) vs)
+unfolding smallestOf count.ones count.onesIn
+any-zeros k [] =
+    let z : 2 ^ k - 1 - (2 ^ k - 1) ≡ 0 = omega arith in
+    ap count.ones (sym z) ∙ zeros-is k (2 ^ k - 1) (omega (arith, pow-pos k))
+any-zeros k (v ∷ vs) = refl
 
 -- ---- "the number of pairs with i+j below p"
 

@@ -47,12 +47,16 @@ unfoldable pub smallestOf : ℕ → List ℕ → ℕ
 smallestOf top [] = top
 smallestOf top (v ∷ vs) = min v (smallestOf top vs)
 
--- "1+a plus, if any word is selected, the number of ones in the greatest syllable (of zeros in the smallest)": with none the
--- greatest is 0 and the smallest all ones, which add nothing
+-- "if any word is selected": its value is one of these
+abbrev pub ifAny : List ℕ → ℕ → ℕ
+ifAny [] k = 0
+ifAny (v ∷ vs) k = k
+
+-- "1+a plus, if any word is selected, the number of ones in the greatest syllable (of zeros in the smallest)"
 -- "scaled add 2·min(a,p); product twice the number of pairs with i+j below p"
 abbrev pub pulsesFor : Kind → Machine → Job → ℕ
-pulsesFor greatest m o = 1 + o .a .width + ones (o .a .width) (greatestOf (values o (m .words) (m .responses)))
-pulsesFor smallest m o = 1 + o .a .width + zeros (o .a .width) (smallestOf (2 ^ o .a .width - 1) (values o (m .words) (m .responses)))
+pulsesFor greatest m o = let vs = values o (m .words) (m .responses) in 1 + o .a .width + ifAny vs (ones (o .a .width) (greatestOf vs))
+pulsesFor smallest m o = let vs = values o (m .words) (m .responses) in 1 + o .a .width + ifAny vs (zeros (o .a .width) (smallestOf (2 ^ o .a .width - 1) vs))
 pulsesFor scaledAdd m o = 2 * min (o .a .width) (o .p .width)
 pulsesFor product m o = 2 * sumBelow (o .a .width) (λ i. sumBelow (o .b .width) (λ j. digit (ltb (i + j) (o .p .width))))
 pulsesFor unknown m o = 0

@@ -20,7 +20,7 @@ use Rattle.job_plans.specs.Fields.{Kind, greatest, smallest, scaledAdd, product
 use Rattle.job_plans.specs.Places.{first, firstFor, atFirst}
 use Rattle.job_tally.specs.Totals.{sumBelow, ones, zeros, valueOf, values, greatestOf, smallestOf, pulses, totalCheck, totalOf}
 use Rattle.jobs.specs.Runs.{State, steps}
-use Rattle.ends.specs.Ends.{Accepted, begun, chosen, Gives, commandsOf, commandAt, ended, IsGreatest, IsSmallest, NoneChosen, Adds, Marks}
+use Rattle.ends.specs.Ends.{Accepted, begun, chosen, Gives, commandsOf, commandAt, ended, IsGreatest, IsSmallest, NoneChosen, Alike, Adds, Marks}
 use Rattle.ends.proofs.Steps.{given-passed}
 use Rattle.ends.proofs.Starts.{accepted-is, started-accepted}
 use Rattle.ends.proofs.Ends.{course, not-over, stays-over}
@@ -140,8 +140,8 @@ module _ (m : Machine) (h : Held) (o q : Job) (start : startOf m h o ≡ started
   unfolding totalOf totalCheck steps
   total-is-taken = rw (given-passed (begun m o) (one-command-a-step 0 (some-pulse (pulses m (first o)) refl)), at-first o)
 
--- ---- never from how many words there are: one job on two machines of any sizes and widths takes the same number of pulses if the selected words
--- have the same extreme, or none is selected on either; and an adding job always
+-- ---- never from how many words there are: one job on two machines of any sizes and widths gives the same commands, in the same number of pulses
+-- (`Alike`), if the selected words have the same extreme; and an adding job always
 
 module _ (m n : Machine) (g h : Held) (o p q : Job) (on-m : startOf m g o ≡ started.Holds p) (on-n : startOf n h o ≡ started.Holds q) where
   left : Accepted m o
@@ -150,17 +150,17 @@ module _ (m n : Machine) (g h : Held) (o p q : Job) (on-m : startOf m g o ≡ st
   right : Accepted n o
   right = started-accepted n h o q on-n
 
-  pub same-greatest-same-pulses : kindOf (o .kind) ≡ greatest → (v : ℕ) → IsGreatest o m v → IsGreatest o n v → pulses m (first o) ≡ pulses n (first o)
-  same-greatest-same-pulses = same-greatest m n o left right
+  pub same-greatest-same-course : kindOf (o .kind) ≡ greatest → (v : ℕ) → IsGreatest o m v → IsGreatest o n v → Alike m n o
+  same-greatest-same-course = same-greatest m n o left right
 
-  pub same-smallest-same-pulses : kindOf (o .kind) ≡ smallest → (v : ℕ) → IsSmallest o m v → IsSmallest o n v → pulses m (first o) ≡ pulses n (first o)
-  same-smallest-same-pulses = same-smallest m n o left right
+  pub same-smallest-same-course : kindOf (o .kind) ≡ smallest → (v : ℕ) → IsSmallest o m v → IsSmallest o n v → Alike m n o
+  same-smallest-same-course = same-smallest m n o left right
 
-  pub scaled-add-same-pulses : kindOf (o .kind) ≡ scaledAdd → pulses m (first o) ≡ pulses n (first o)
-  scaled-add-same-pulses = same-scaled-add m n o left right
+  pub scaled-add-same-course : kindOf (o .kind) ≡ scaledAdd → Alike m n o
+  scaled-add-same-course = same-scaled-add m n o left right
 
-  pub product-same-pulses : kindOf (o .kind) ≡ product → pulses m (first o) ≡ pulses n (first o)
-  product-same-pulses = same-product m n o left right
+  pub product-same-course : kindOf (o .kind) ≡ product → Alike m n o
+  product-same-course = same-product m n o left right
 
 -- ---- jobs over stops. `Typed` says what the buffers' types say: responses are bytes, c has 64 bits
 

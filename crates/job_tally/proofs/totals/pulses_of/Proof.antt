@@ -1,8 +1,9 @@
-use mathlib.Core.Path.{ap, _∙_}
-use Prim.Native.Nat.{ℕ, _*_}
+use mathlib.Core.Path.{sym, ap, _∙_}
+use Prim.Native.Nat.{ℕ, _+_, _*_}
 use Rattle.machine.specs.Machine.{machine}
 use Rattle.job_plans.specs.Fields.{Kind}
-use Rattle.job_tally.specs.Totals.{pulsesFor, pulses}
+use Rattle.job_tally.specs.Totals.{values, pulsesFor, pulses}
+use Rattle.job_tally.proofs.Sums as sums
 use Rattle.job_plans.proofs.ByKind.{as-kind, as-unknown}
 use borrow.Author.Needs.{needs}
 use Rattle.job_tally.proofs.totals.pulses_of.Statement.{statement}
@@ -36,13 +37,19 @@ returns : tie.Need-returns
 unfolding pulses
 returns c =
     let a = c .before .before .before .before .args in
-    λ n. c .greatest-pulses .ensures ∙ as-kind (λ (k : Kind). pulsesFor k (machine n (a .words .now) (a .responses .now)) (a .o)) (a .o .kind) 1 (c .before .match .keys1)
+    let w = a .o .a .width in
+    λ n. c .greatest-pulses .ensures
+    ∙ ap (λ (x : ℕ). 1 + w + x) (sym (sums.any-ones w (values (a .o) (a .words .now) (a .responses .now))))
+    ∙ as-kind (λ (k : Kind). pulsesFor k (machine n (a .words .now) (a .responses .now)) (a .o)) (a .o .kind) 1 (c .before .match .keys1)
 
 returns-2 : tie.Need-returns-2
 unfolding pulses
 returns-2 c =
     let a = c .before .before .before .before .args in
-    λ n. c .smallest-pulses .ensures ∙ as-kind (λ (k : Kind). pulsesFor k (machine n (a .words .now) (a .responses .now)) (a .o)) (a .o .kind) 2 (c .before .match .keys2)
+    let w = a .o .a .width in
+    λ n. c .smallest-pulses .ensures
+    ∙ ap (λ (x : ℕ). 1 + w + x) (sym (sums.any-zeros w (values (a .o) (a .words .now) (a .responses .now))))
+    ∙ as-kind (λ (k : Kind). pulsesFor k (machine n (a .words .now) (a .responses .now)) (a .o)) (a .o .kind) 2 (c .before .match .keys2)
 
 returns-3 : tie.Need-returns-3
 unfolding pulses
