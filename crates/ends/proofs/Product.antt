@@ -59,7 +59,7 @@ module _ (m : Machine) (o : Job) (accepted : Accepted m o) (kind : kindOf (o .ki
   -- both of each place
   pub product-commands : commandsOf m (first o) ≡ both (held o) (rows (held o) 0 (lesser o))
   unfolding commandsOf
-  product-commands = rw first-is (rw kind (sym (both-rows (held o) 0 (lesser o))))
+  product-commands = rw first-is (rw kind (sym (both-rows (held o) 0 (o .a .width) (lesser o) (omega arith))))
 
   whole : Whole m o (visited .end)
   whole =

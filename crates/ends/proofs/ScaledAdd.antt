@@ -64,7 +64,7 @@ module _ (m : Machine) (o : Job) (accepted : Accepted m o) (kind : kindOf (o .ki
   -- both of each place
   pub scaled-add-commands : commandsOf m (first o) ≡ both (held o) (ups (held o) 0 (lesser o))
   unfolding commandsOf
-  scaled-add-commands = rw first-is (rw kind (sym (both-ups (held o) 0 (lesser o))))
+  scaled-add-commands = rw first-is (rw kind (sym (both-ups (held o) 0 (lesser o) (omega arith))))
 
   whole : Whole m o (visited .end)
   whole =

@@ -4,7 +4,7 @@ use mathlib.Core.Path.{_≡_}
 use mathlib.Core.Bool.{Bool, true, false, _&&_}
 use mathlib.Core.Logic.{_⊎_}
 use mathlib.Core.List.{List, [], _∷_, _++_}
-use lib.Dec.{eqb}
+use lib.Dec.{ltb, eqb}
 use lib.ListN.{length, getD}
 use Rattle.laws.specs.Bits.{bit, pick, digit}
 use Rattle.machine.specs.declared.Check.the-variants as check
@@ -65,15 +65,15 @@ unfoldable pub fromTop : Job → (ℕ → ℕ) → ℕ → List Command
 fromTop o matched zero = []
 fromTop o matched (suc i) = command (moved o 1 i 0) ∷ (pick (eqb (matched i) 1) (command (moved o 2 i 0) ∷ []) [] ++ fromTop o matched i)
 
--- the trial and the add at k places of row i, from j on
+-- for k numbers j from here on, "with i+j below p": the trial and the add
 unfoldable pub row : Job → ℕ → ℕ → ℕ → List Command
 row o i j zero = []
-row o i j (suc k) = command (moved o 1 i j) ∷ command (moved o 2 i j) ∷ row o i (suc j) k
+row o i j (suc k) = pick (ltb (i + j) (o .p .width)) (command (moved o 1 i j) ∷ command (moved o 2 i j) ∷ []) [] ++ row o i (suc j) k
 
--- k rows from i on, of so many places each
-unfoldable pub rows : Job → (ℕ → ℕ) → ℕ → ℕ → List Command
-rows o places i zero = []
-rows o places i (suc k) = row o i 0 (places i) ++ rows o places (suc i) k
+-- for k numbers i from here on, and within each j from 0 below `many`
+unfoldable pub rows : Job → ℕ → ℕ → ℕ → List Command
+rows o many i zero = []
+rows o many i (suc k) = row o i 0 many ++ rows o many (suc i) k
 
 -- extremes: a trial for the greatest matches where the greatest has a 1, for the smallest where the smallest has a 0
 -- "for place i from 0 below the smaller of the widths a and p"; "for i from 0 below a, and within it j from 0 below b, with i+j below p"
@@ -81,8 +81,8 @@ abbrev pub commandsFor : Kind → Machine → Job → List Command
 commandsFor greatest m o = opening o ∷ fromTop o (bit (greatestOf (values o (m .words) (m .responses)))) (o .a .width)
 commandsFor smallest m o =
     opening o ∷ fromTop o (λ i. 1 - bit (smallestOf (2 ^ o .a .width - 1) (values o (m .words) (m .responses))) i) (o .a .width)
-commandsFor scaledAdd m o = rows o (λ i. 1) 0 (min (o .a .width) (o .p .width))
-commandsFor product m o = rows o (λ i. min (o .b .width) (o .p .width - i)) 0 (min (o .a .width) (o .p .width))
+commandsFor scaledAdd m o = rows o 1 0 (min (o .a .width) (o .p .width))
+commandsFor product m o = rows o (o .b .width) 0 (o .a .width)
 commandsFor unknown m o = []
 
 unfoldable pub commandsOf : Machine → Job → List Command
