@@ -1,4 +1,4 @@
-// Which command a line is. docs/BOARD.md has the language; `setting`, `pulsing`, `working` and `storing` have the commands.
+// Which command a line is. docs/BOARD.md has the language; `console_setting`, `console_pulsing`, `console_working` and `console_storing` have the commands.
 use console_commands::Board;
 use console_commands::Outcome;
 use console_commands::Turn;

@@ -1,1 +1,1 @@
-// Laws of whole-word arithmetic over syllables, and the small word operations that rest on them.
+// Laws of whole-word arithmetic over syllables; definitions and laws, no code.
