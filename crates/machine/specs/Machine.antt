@@ -23,7 +23,8 @@ responseBits = 8
 abbrev pub response : Machine → ℕ → ℕ
 response m j = getD (m .responses) j 0
 
--- A syllable is a lowest bit and a width ('Jobs': "A syllable here is a lowest bit and a width").
+-- "A one in SDR makes that bit the top bit of a syllable, which runs down to the bit above the next such one, or to bit 0.": held by its lowest
+-- bit and how many bits it has
 pub record Syllable : Type 0 where
   pub low : ℕ
   pub width : ℕ
