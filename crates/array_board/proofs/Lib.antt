@@ -1,2 +1,2 @@
 -- laws that the functions' proofs cite
-pub mod Takes
+pub mod Taking

@@ -9,7 +9,7 @@ use Rattle.array.specs.declared.Refusal.{Refusal}
 use Rattle.array.specs.declared.Refusal.the-variants as refusal
 use Rattle.array.specs.Refusals.{numberOf}
 use Rattle.output.specs.Puts.{Puts}
-use Rattle.output.proofs.Putting.{puts₂, puts₄}
+use Rattle.output.proofs.Puts.{puts₂, puts₄}
 use Rattle.listing.specs.Lists.{named}
 use Rattle.array_replies.specs.Texts.{refusalText, alsoText, entryText, wordText}
 

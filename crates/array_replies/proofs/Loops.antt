@@ -6,7 +6,7 @@ use native.Mathlib.Numerals.{add-one}
 use native.Mathlib.Omega.{arith}
 use lib.ListN.{length}
 use Rattle.output.specs.Puts.{Puts}
-use Rattle.output.proofs.Putting.{Rest, all-left, one-less}
+use Rattle.output.proofs.Puts.{Rest, all-left, one-less}
 use Rattle.array_replies.specs.Texts.{entryText, wordsText}
 
 module _ (ones xs selectors : List ℕ) where

@@ -1,3 +1,3 @@
 -- laws that the functions' proofs cite
-pub mod Naming
-pub mod Calling
+pub mod Lines
+pub mod Calls

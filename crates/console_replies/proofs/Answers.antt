@@ -9,7 +9,7 @@ use lib.ListN.{length, take}
 use Rattle.laws.specs.Bits.{pick}
 use Rattle.text.specs.Ascii.{ascii}
 use Rattle.output.specs.Puts.{Puts}
-use Rattle.output.proofs.Putting.{none-put}
+use Rattle.output.proofs.Puts.{none-put}
 use Rattle.listing.specs.Lists.{listText}
 use Rattle.console_replies.specs.Texts.{ofImage, pairsText}
 

@@ -8,7 +8,7 @@ use lib.ListN.{length, drop, getD}
 use lib.Seq.{drop-cons, drop-length}
 use Rattle.output.specs.Digits.{pair}
 use Rattle.output.specs.Puts.{Puts}
-use Rattle.output.proofs.Putting.{Rest, one-less}
+use Rattle.output.proofs.Puts.{Rest, one-less}
 use Rattle.console_replies.specs.Texts.{pairsText}
 
 module _ {s : List ℕ} {at : ℕ} {out₀ out : List ℕ} {n : ℕ} where

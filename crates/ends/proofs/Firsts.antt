@@ -16,7 +16,7 @@ use Rattle.job_plans.specs.declared.Held.the-variants.{Holds}
 use Rattle.job_plans.specs.Fields.{Kind, greatest, smallest, scaledAdd, product, unknown, kindOf, job, isZero, unusedZeroFor}
 use Rattle.job_plans.specs.Places.{none, firstFor, first, atFirst, heldCheck, stepCheck}
 use Rattle.job_plans.proofs.Fair.{and-true, Fair, fair, extreme-fields, scaled-fields, product-fields}
-use Rattle.job_plans.proofs.Standing.{narrow, fair-held}
+use Rattle.job_plans.proofs.Places.{narrow, fair-held}
 use Rattle.job_tally.proofs.Sums.{any-ones, any-zeros}
 use Rattle.job_tally.specs.Totals.{sumBelow, values, greatestOf, smallestOf, pulsesFor, pulses}
 

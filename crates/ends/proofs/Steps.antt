@@ -26,7 +26,7 @@ use Rattle.laws.specs.Bits.{pick}
 use Rattle.job_plans.specs.Fields.{Kind, greatest, smallest, scaledAdd, product, unknown, kindOf}
 use Rattle.job_plans.specs.Places.{heldCheck, next, noneHeld}
 use Rattle.job_plans.specs.Commands.{command, opening, trial, second}
-use Rattle.jobs.proofs.Giving.{pulse-passes}
+use Rattle.jobs.proofs.Calls.{pulse-passes}
 use Rattle.jobs.specs.Calls.{stepCheck, gave, stepOf, machineAfter, afterStep}
 use Rattle.jobs.specs.Runs.{State, heldAfter, stepped, steps}
 use Rattle.ends.specs.Ends.{Gives}

@@ -10,7 +10,7 @@ use Rattle.machine.specs.declared.ResponseBit.{ResponseBit}
 use Rattle.resolver.specs.Answers.{LowestAt}
 use Rattle.rounds.specs.Round.{has, answered}
 use Rattle.rounds.specs.Round.{Fit}
-use Rattle.rounds.proofs.Answering.{lost}
+use Rattle.rounds.proofs.Round.{lost}
 use Rattle.handout.specs.Whole.{saysDone, verdictBy, each, tally, worked, isDone, isFaulty}
 use Rattle.handout.proofs.Lists.{each-at, tally-at}
 

@@ -4,4 +4,4 @@ pub mod Passing
 pub mod Answering
 pub mod Working
 pub mod Counted
-pub mod WholeRound
+pub mod Whole

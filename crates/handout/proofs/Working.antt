@@ -30,7 +30,7 @@ use Rattle.rounds.specs.Round.{has, shown, answered, answeredAt, showCheck, rou
 use Rattle.handout.specs.Whole.{saysDone, verdictBy, isTaken, each, tally, worked, isDone, isFaulty, ended, afterEnded}
 use Rattle.rounds.proofs.Passing.{round-parts, accepted, acceptable, show-passes}
 use Rattle.handout.proofs.Lists.{each-all, tally-all, tally-few}
-use Rattle.rounds.proofs.Answering.{same-checks}
+use Rattle.rounds.proofs.Round.{same-checks}
 use Rattle.handout.proofs.Answering.{and-false, stored, answer-whole, answer-done, answer-faulty}
 
 -- ---- what show told

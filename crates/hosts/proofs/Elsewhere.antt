@@ -20,7 +20,7 @@ use Rattle.rounds.proofs.Marks.{put-lt}
 use Rattle.rounds.proofs.Kept.{run}
 use Rattle.handout.specs.declared.Report.the-variants as report
 use Rattle.handout.specs.Whole.{verdictOf, ended, afterEnded, reportOf, afterRound}
-use Rattle.handout.proofs.WholeRound.{whole-round}
+use Rattle.handout.proofs.Whole.{whole-round}
 use Rattle.image_layout.specs.Sizes.{responseSize}
 use Rattle.image_layout.specs.Format.{AreResponses}
 use Rattle.hosts.specs.Rounds.{Leaves, Beside}

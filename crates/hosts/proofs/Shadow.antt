@@ -26,7 +26,7 @@ use Rattle.rounds.specs.Handout.{numbersWith, responders, response}
 use Rattle.rounds.proofs.Marks.{put-bit}
 use Rattle.rounds.proofs.Passing.{acceptable, accepted}
 use Rattle.rounds.specs.Round.{Fit}
-use Rattle.rounds.proofs.Answering.{same-checks}
+use Rattle.rounds.proofs.Round.{same-checks}
 use Rattle.hosts.specs.Rounds.{Leaves}
 use Rattle.hosts.proofs.Below.{bit-below, either-below}
 

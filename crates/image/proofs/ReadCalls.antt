@@ -22,7 +22,7 @@ use Rattle.image_layout.specs.Format.{numberAt, heldOf}
 use Rattle.image_layout.specs.Reading.{scanned, stateIn, widthIn, wordsIn, records, jobsOf, numbers}
 use Rattle.image.specs.Calls.{refuseBytes, readCheck, readOf, wordsRead, responsesRead}
 use Rattle.image_layout.proofs.Reading.{length-numbers}
-use Rattle.image_parts.proofs.Scans.{Long, long}
+use Rattle.image_parts.proofs.Parts.{Long, long}
 
 -- ---- the checks
 

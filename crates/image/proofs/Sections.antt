@@ -24,7 +24,7 @@ use Rattle.image_layout.specs.Format.{bytes, value, numberAt, items, jobBytes, 
 use Rattle.image_layout.specs.Reading.{Field, scan, wordField, responseField, jobField, numbers, records}
 use Rattle.image_layout.proofs.Format.{under-take, under-drop, length-bytes, value-bytes, number-lt, number-cut, length-job, job-back, job-law, job-fits}
 use Rattle.image.specs.Calls.{jobsCheck}
-use Rattle.image_parts.proofs.Scans.{next}
+use Rattle.image_parts.proofs.Parts.{next}
 
 -- ---- written: a field that is right is passed
 

@@ -23,7 +23,7 @@ use Rattle.image_layout.specs.Format.{bytes, numberAt, items, jobBytes, jobOf, 
 use Rattle.image_layout.specs.Reading.{scan, countIs, wordCount, widthByte, wordField, responseField, jobCount, jobField, widthIn, wordsIn, jobsIn, records, jobsOf, fieldsOf, scanned, numbers, stateIn}
 use Rattle.image_layout.proofs.Format.{number-cut, jobs-held}
 use Rattle.image_layout.proofs.Reading.{length-numbers, length-records}
-use Rattle.image_parts.proofs.Scans.{next, run}
+use Rattle.image_parts.proofs.Parts.{next, run}
 use Rattle.image.specs.Calls.{jobsCheck, Stored}
 use Rattle.image.proofs.Sections.{items-cut, numbers-under, job-cut, job-typed, words-held, none-wide, nothing-left}
 use Rattle.image.proofs.RoundTrip.{flat}

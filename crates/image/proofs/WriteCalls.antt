@@ -24,7 +24,7 @@ use Rattle.image_layout.specs.Format.{section, jobBytes, heldJobs, imageOf}
 use Rattle.image.specs.Calls.{jobsCheck, writeCheck, writeOf, written}
 use Rattle.image_stores.specs.Stored.{machineBytes}
 use Rattle.image_layout.proofs.Format.{length-bytes, length-items, length-job-section}
-use Rattle.image_stores.proofs.Storing.{sets-append}
+use Rattle.image_stores.proofs.Stored.{sets-append}
 
 -- ---- how long an image is
 

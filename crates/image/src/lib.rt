@@ -3,7 +3,6 @@
 pub mod reading;
 pub mod writing;
 
-pub use image_layout::Scanned;
 use job_plans::Held;
 use machine::Refusal;
 

@@ -1,2 +1,2 @@
 -- laws of fields
-pub mod Scans
+pub mod Parts

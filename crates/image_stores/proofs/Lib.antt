@@ -1,2 +1,2 @@
 -- laws of stores
-pub mod Storing
+pub mod Stored

@@ -2,4 +2,4 @@
 pub mod ByKind
 pub mod Fair
 pub mod Shifts
-pub mod Standing
+pub mod Places

@@ -14,7 +14,7 @@ use Rattle.job_tally.specs.declared.Total.the-variants as total
 use Rattle.job_plans.specs.Places.{stepCheck}
 use Rattle.job_tally.specs.Totals.{pulses, firstCheck, totalCheck, totalOf}
 use Rattle.job_plans.proofs.Fair.{has-a, used-fields}
-use Rattle.job_plans.proofs.Standing.{good, narrow, fair-held, step-none}
+use Rattle.job_plans.proofs.Places.{good, narrow, fair-held, step-none}
 
 module _ (m : Machine) (h : Held) where
   pub total-refused : (r : Refusal) → totalCheck m h ≡ Refused r → total.Refused r ≡ totalOf m h

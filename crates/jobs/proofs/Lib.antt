@@ -1,4 +1,4 @@
 -- laws that the functions' proofs cite
 pub mod Phases
 pub mod Taken
-pub mod Giving
+pub mod Calls

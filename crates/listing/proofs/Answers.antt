@@ -9,7 +9,7 @@ use Rattle.machine.specs.Refusals.{numberOf, alsoAnswers}
 use Rattle.image.specs.declared.Read.{Read}
 use Rattle.image.specs.Calls.{readOf, wordsRead, responsesRead}
 use Rattle.output.specs.Puts.{Puts}
-use Rattle.output.proofs.Putting.{puts₂, puts₃}
+use Rattle.output.proofs.Puts.{puts₂, puts₃}
 use Rattle.listing.specs.Lists.{named, refusalText, alsoText, entryText, wordText, foundText, listText}
 
 -- ---- a refusal

@@ -13,7 +13,7 @@ use Rattle.text.specs.Ascii.{ascii}
 use Rattle.output.specs.Digits.{hexDigits, decimalDigits}
 use Rattle.output.specs.Digits.{pair}
 use Rattle.listing.specs.Lists.{named, named16, namedResponse, alsoText, refusalText}
-use Rattle.output.proofs.Putting.{length-hex}
+use Rattle.output.proofs.Puts.{length-hex}
 
 -- ---- texts of at most so many bytes
 

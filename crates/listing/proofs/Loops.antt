@@ -6,7 +6,7 @@ use native.Mathlib.Numerals.{add-one}
 use native.Mathlib.Omega.{arith}
 use lib.ListN.{length}
 use Rattle.output.specs.Puts.{Puts}
-use Rattle.output.proofs.Putting.{Rest, all-left, one-less}
+use Rattle.output.proofs.Puts.{Rest, all-left, one-less}
 use Rattle.listing.specs.Lists.{entryText, wordsText}
 
 pub words-left : (words responses : List ℕ) (k at : ℕ) (out : List ℕ) → Rest (wordsText k 0 words responses) at out (wordsText (k - 0) 0 words responses) out at

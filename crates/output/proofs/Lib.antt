@@ -1,3 +1,3 @@
 -- laws that the functions' proofs cite
 pub mod Digits
-pub mod Putting
+pub mod Puts

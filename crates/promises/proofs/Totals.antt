@@ -17,7 +17,7 @@ use Rattle.job_plans.specs.declared.Held.{Held}
 use Rattle.job_plans.specs.declared.Held.the-variants.{Nothing, Holds}
 use Rattle.job_plans.specs.Places.{first, atFirst, noneHeld, stepCheck}
 use Rattle.job_plans.proofs.Fair.{used-fields}
-use Rattle.job_plans.proofs.Standing.{good, fair-held}
+use Rattle.job_plans.proofs.Places.{good, fair-held}
 use Rattle.job_tally.specs.declared.Total.{Total}
 use Rattle.job_tally.specs.declared.Total.the-variants as total
 use Rattle.job_tally.specs.Totals.{pulses, firstCheck, totalCheck, totalOf}

@@ -20,7 +20,7 @@ use Rattle.rounds.specs.declared.Verdict.the-variants.{Done, Faulty}
 use Rattle.rounds.specs.Round.{shown, answered, answeredAt, roundCheck, answerCheck, afterAnswer}
 use Rattle.rounds.specs.Handout.{responders, responder, response, NotAmong, firstOf, Answers}
 use Rattle.rounds.proofs.Passing.{acceptable}
-use Rattle.rounds.proofs.Answering.{answered-mark, answered-faulty, answered-done, same-checks}
+use Rattle.rounds.proofs.Round.{answered-mark, answered-faulty, answered-done, same-checks}
 use Rattle.rounds.proofs.Responders.{first-lowest}
 use Rattle.rounds.proofs.Kept.{run}
 

@@ -18,7 +18,7 @@ use Rattle.rounds.specs.Round.{has, shown, answered, answeredAt, afterAn
 use Rattle.rounds.specs.Handout.{responders, responder, response, NotAmong, firstOf, Answers, none-yet, one-more}
 use Rattle.rounds.proofs.Passing.{Accepted, accepted}
 use Rattle.rounds.specs.Round.{Fit}
-use Rattle.rounds.proofs.Answering.{lost, answered-else}
+use Rattle.rounds.proofs.Round.{lost, answered-else}
 use Rattle.rounds.proofs.Responders.{first-lowest, first-off, first-of-rest}
 
 pub record Kept (x f : ResponseBit) (vs : List Verdict) (m n : Machine) : Type 0 where

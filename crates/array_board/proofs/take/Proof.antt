@@ -1,6 +1,6 @@
 use mathlib.Core.Path.{refl, sym, _∙_}
 use Rattle.array_console.specs.Obeying.{bench}
-use Rattle.array_board.proofs.Takes.{parts, silent, too-long, answered}
+use Rattle.array_board.proofs.Taking.{parts, silent, too-long, answered}
 use borrow.Author.Needs.{needs}
 use Rattle.array_board.proofs.take.Statement.{statement}
 use Rattle.array_board.proofs.take.Tie as tie

@@ -1,5 +1,5 @@
 use mathlib.Core.List.{[], _∷_}
-use Rattle.output.proofs.Putting.{puts₂, byte-put}
+use Rattle.output.proofs.Puts.{puts₂, byte-put}
 use Rattle.array_replies.specs.Texts.{printed}
 use borrow.Author.Needs.{needs}
 use Rattle.array_replies.proofs.put.Statement.{statement}

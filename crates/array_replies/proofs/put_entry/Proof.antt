@@ -1,5 +1,5 @@
 use native.Mathlib.Omega.{arith}
-use Rattle.output.proofs.Putting.{none-put}
+use Rattle.output.proofs.Puts.{none-put}
 use Rattle.array_replies.proofs.Answers.{entry-held, no-selectors, no-x, no-one}
 use borrow.Author.Needs.{needs}
 use Rattle.array_replies.proofs.put_entry.Statement.{statement}

@@ -1,5 +1,5 @@
 use Rattle.listing.specs.Lists.{named, named16}
-use Rattle.output.proofs.Putting.{puts₅}
+use Rattle.output.proofs.Puts.{puts₅}
 use borrow.Author.Needs.{needs}
 use Rattle.array_replies.proofs.put_head.Statement.{statement}
 use Rattle.array_replies.proofs.put_head.Tie as tie

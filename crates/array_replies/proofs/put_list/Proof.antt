@@ -2,7 +2,7 @@ use Prim.Native.Nat.{_-_, _≤_}
 use mathlib.Core.Path.{_≡_}
 use native.Mathlib.Omega.{arith}
 use lib.ListN.{length}
-use Rattle.output.proofs.Putting.{Rest, puts₂}
+use Rattle.output.proofs.Puts.{Rest, puts₂}
 use Rattle.array_replies.specs.Texts.{headText, wordsText}
 use Rattle.array_replies.proofs.Loops.{words-left, words-less, words-all}
 use borrow.Author.Needs.{needs}

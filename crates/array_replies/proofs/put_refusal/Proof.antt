@@ -1,7 +1,7 @@
 use types.Run.{miss}
 use mathlib.Core.Path.{ap}
 use mathlib.Core.List.{[], _∷_}
-use Rattle.output.proofs.Putting.{none-put}
+use Rattle.output.proofs.Puts.{none-put}
 use Rattle.array_replies.specs.Texts.{alsoText}
 use Rattle.array_replies.proofs.Answers.{refused, no-more}
 use borrow.Author.Needs.{needs}

@@ -1,6 +1,6 @@
 use mathlib.Core.Path.{refl, sym, _∙_}
 use Rattle.console.specs.Obeying.{desk}
-use Rattle.board.proofs.Takes.{parts, silent, too-long, answered}
+use Rattle.board.proofs.Taking.{parts, silent, too-long, answered}
 use borrow.Author.Needs.{needs}
 use Rattle.board.proofs.take.Statement.{statement}
 use Rattle.board.proofs.take.Tie as tie

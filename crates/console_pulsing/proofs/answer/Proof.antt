@@ -4,7 +4,7 @@ use native.Mathlib.Omega.{arith}
 use borrow.Author.Tests.{not-true, not-false}
 use Rattle.machine.specs.Machine.{machine}
 use Rattle.text.specs.Words.{wordsOf}
-use Rattle.console_pulsing.proofs.Calling.{answer-bad, answer-replied}
+use Rattle.console_pulsing.proofs.Calls.{answer-bad, answer-replied}
 use borrow.Author.Needs.{needs}
 use Rattle.console_pulsing.proofs.answer.Statement.{statement}
 use Rattle.console_pulsing.proofs.answer.Tie as tie

@@ -1,6 +1,6 @@
 -- The plain machine's pulse with the lines that the words name; where a word is none of them, or stands twice, nothing has changed.
 use Rattle.machine.specs.Machine.{machine}
-use Rattle.console_pulsing.proofs.Calling.{pulse-bad, pulse-told}
+use Rattle.console_pulsing.proofs.Calls.{pulse-bad, pulse-told}
 use borrow.Author.Needs.{needs}
 use Rattle.console_pulsing.proofs.cells.Statement.{statement}
 use Rattle.console_pulsing.proofs.cells.Tie as tie

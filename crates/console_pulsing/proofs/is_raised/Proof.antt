@@ -1,6 +1,6 @@
 -- The line of each number; a number of none of them is told as raised.
 use borrow.Author.Needs.{needs}
-use Rattle.console_pulsing.proofs.Naming.{no-such-line}
+use Rattle.console_pulsing.proofs.Lines.{no-such-line}
 use Rattle.console_pulsing.proofs.is_raised.Statement.{statement}
 use Rattle.console_pulsing.proofs.is_raised.Tie as tie
 

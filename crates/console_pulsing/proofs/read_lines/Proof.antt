@@ -5,7 +5,7 @@ use native.Mathlib.Omega.{arith}
 use lib.ListN.{length, drop}
 use Rattle.text.specs.Words.{wordsOf}
 use Rattle.console_pulsing.specs.Lines.{linesFrom, linesOf}
-use Rattle.console_pulsing.proofs.Naming.{lines-end, lines-over, lines-bad, lines-on}
+use Rattle.console_pulsing.proofs.Lines.{lines-end, lines-over, lines-bad, lines-on}
 use borrow.Author.Needs.{needs}
 use Rattle.console_pulsing.proofs.read_lines.Statement.{statement}
 use Rattle.console_pulsing.proofs.read_lines.Tie as tie

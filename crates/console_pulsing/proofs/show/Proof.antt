@@ -3,7 +3,7 @@ use native.Mathlib.Omega.{arith}
 use borrow.Author.Tests.{not-true, not-false}
 use Rattle.machine.specs.Machine.{machine}
 use Rattle.text.specs.Words.{wordsOf}
-use Rattle.console_pulsing.proofs.Calling.{show-bad, show-found}
+use Rattle.console_pulsing.proofs.Calls.{show-bad, show-found}
 use borrow.Author.Needs.{needs}
 use Rattle.console_pulsing.proofs.show.Statement.{statement}
 use Rattle.console_pulsing.proofs.show.Tie as tie

@@ -2,7 +2,7 @@
 use borrow.Author.Tests.{not-true, not-false}
 use Rattle.machine.specs.Machine.{machine}
 use Rattle.text.specs.Words.{wordsOf}
-use Rattle.console_pulsing.proofs.Calling.{resolve-bad, resolve-found}
+use Rattle.console_pulsing.proofs.Calls.{resolve-bad, resolve-found}
 use borrow.Author.Needs.{needs}
 use Rattle.console_pulsing.proofs.tree.Statement.{statement}
 use Rattle.console_pulsing.proofs.tree.Tie as tie

@@ -1,6 +1,6 @@
 use mathlib.Core.List.{[], _∷_}
 use Rattle.console_replies.specs.Texts.{printed}
-use Rattle.output.proofs.Putting.{puts₂, byte-put}
+use Rattle.output.proofs.Puts.{puts₂, byte-put}
 use borrow.Author.Needs.{needs}
 use Rattle.console_replies.proofs.put.Statement.{statement}
 use Rattle.console_replies.proofs.put.Tie as tie

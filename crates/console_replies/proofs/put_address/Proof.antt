@@ -1,6 +1,6 @@
 use Rattle.listing.specs.Lists.{named}
 use Rattle.console_replies.specs.Texts.{panelText}
-use Rattle.output.proofs.Putting.{puts₂}
+use Rattle.output.proofs.Puts.{puts₂}
 use borrow.Author.Needs.{needs}
 use Rattle.console_replies.proofs.put_address.Statement.{statement}
 use Rattle.console_replies.proofs.put_address.Tie as tie

@@ -4,7 +4,7 @@ use native.Mathlib.Omega.{arith}
 use lib.ListN.{length, drop}
 use Rattle.text.specs.Ascii.{ascii}
 use Rattle.console_replies.specs.Texts.{pairsText}
-use Rattle.output.proofs.Putting.{puts₂, Rest, all-left}
+use Rattle.output.proofs.Puts.{puts₂, Rest, all-left}
 use Rattle.console_replies.proofs.Loops.{pairs-less, pairs-all}
 use borrow.Author.Needs.{needs}
 use Rattle.console_replies.proofs.put_bytes.Statement.{statement}

@@ -1,6 +1,6 @@
 use Rattle.listing.specs.Lists.{namedResponse}
 use Rattle.console_replies.specs.Texts.{registersText}
-use Rattle.output.proofs.Putting.{puts₄}
+use Rattle.output.proofs.Puts.{puts₄}
 use borrow.Author.Needs.{needs}
 use Rattle.console_replies.proofs.put_panel.Statement.{statement}
 use Rattle.console_replies.proofs.put_panel.Tie as tie

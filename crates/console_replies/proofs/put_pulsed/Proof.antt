@@ -1,5 +1,5 @@
 use Rattle.listing.specs.Lists.{named, named16}
-use Rattle.output.proofs.Putting.{puts₂}
+use Rattle.output.proofs.Puts.{puts₂}
 use borrow.Author.Needs.{needs}
 use Rattle.console_replies.proofs.put_pulsed.Statement.{statement}
 use Rattle.console_replies.proofs.put_pulsed.Tie as tie

@@ -1,5 +1,5 @@
 use Rattle.listing.specs.Lists.{named16}
-use Rattle.output.proofs.Putting.{puts₅}
+use Rattle.output.proofs.Puts.{puts₅}
 use borrow.Author.Needs.{needs}
 use Rattle.console_replies.proofs.put_registers.Statement.{statement}
 use Rattle.console_replies.proofs.put_registers.Tie as tie

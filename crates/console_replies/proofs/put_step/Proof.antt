@@ -2,7 +2,7 @@ use Rattle.laws.specs.Bits.{pick}
 use Rattle.text.specs.Ascii.{ascii}
 use Rattle.listing.specs.Lists.{named}
 use Rattle.console_replies.specs.Texts.{panelText}
-use Rattle.output.proofs.Putting.{puts₄}
+use Rattle.output.proofs.Puts.{puts₄}
 use borrow.Author.Needs.{needs}
 use Rattle.console_replies.proofs.put_step.Statement.{statement}
 use Rattle.console_replies.proofs.put_step.Tie as tie

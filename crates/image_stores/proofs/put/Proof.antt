@@ -6,7 +6,7 @@ use borrow.Author.Needs.{needs}
 use lib.ListN.{length, length-set}
 use lib.Seq.{sets}
 use Rattle.image_layout.specs.Format.{bytes}
-use Rattle.image_stores.proofs.Storing.{put-none, put-turn}
+use Rattle.image_stores.proofs.Stored.{put-none, put-turn}
 use Rattle.image_stores.proofs.put.Statement.{statement}
 use Rattle.image_stores.proofs.put.Tie as tie
 

@@ -5,7 +5,7 @@ use native.Mathlib.Nat.{add-zero}
 use borrow.Author.Needs.{needs}
 use lib.ListN.{length, drop, length-set}
 use lib.Seq.{sets}
-use Rattle.image_stores.proofs.Storing.{list-turn, list-none}
+use Rattle.image_stores.proofs.Stored.{list-turn, list-none}
 use Rattle.image_stores.proofs.put_bytes.Statement.{statement}
 use Rattle.image_stores.proofs.put_bytes.Tie as tie
 

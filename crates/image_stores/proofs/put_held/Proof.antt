@@ -3,7 +3,7 @@ use native.Mathlib.Omega.{arith}
 use lib.ListN.{length}
 use Rattle.job_plans.specs.declared.Held.{Held}
 use Rattle.image_layout.specs.Format.{heldJobs}
-use Rattle.image_stores.proofs.Storing.{stored-none, stored-one}
+use Rattle.image_stores.proofs.Stored.{stored-none, stored-one}
 use borrow.Author.Needs.{needs}
 use Rattle.image_stores.proofs.put_held.Statement.{statement}
 use Rattle.image_stores.proofs.put_held.Tie as tie

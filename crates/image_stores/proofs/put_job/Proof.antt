@@ -1,5 +1,5 @@
 use native.Mathlib.Omega.{arith}
-use Rattle.image_stores.proofs.Storing.{wrote-job}
+use Rattle.image_stores.proofs.Stored.{wrote-job}
 use borrow.Author.Needs.{needs}
 use Rattle.image_stores.proofs.put_job.Statement.{statement}
 use Rattle.image_stores.proofs.put_job.Tie as tie

@@ -1,5 +1,5 @@
 use Rattle.machine.specs.Machine.{machine}
-use Rattle.image_stores.proofs.Storing.{wrote-machine}
+use Rattle.image_stores.proofs.Stored.{wrote-machine}
 use borrow.Author.Needs.{needs}
 use Rattle.image_stores.proofs.put_machine.Statement.{statement}
 use Rattle.image_stores.proofs.put_machine.Tie as tie

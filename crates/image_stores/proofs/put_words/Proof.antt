@@ -6,7 +6,7 @@ use lib.Seq.{sets}
 use borrow.Author.Needs.{needs}
 use Rattle.image_layout.specs.Sizes.{wordSize}
 use Rattle.image_layout.specs.Format.{bytes, items}
-use Rattle.image_stores.proofs.Storing.{items-turn, items-none}
+use Rattle.image_stores.proofs.Stored.{items-turn, items-none}
 use Rattle.image_stores.proofs.put_words.Statement.{statement}
 use Rattle.image_stores.proofs.put_words.Tie as tie
 

@@ -1,6 +1,6 @@
 use Rattle.machine.specs.Machine.{machine}
-use Rattle.job_plans.proofs.Standing as standing
-use Rattle.jobs.proofs.Giving as giving
+use Rattle.job_plans.proofs.Places as standing
+use Rattle.jobs.proofs.Calls as giving
 use borrow.Author.Needs.{needs}
 use Rattle.jobs.proofs.give.Statement.{statement}
 use Rattle.jobs.proofs.give.Tie as tie

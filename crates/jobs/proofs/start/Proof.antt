@@ -1,6 +1,6 @@
 use mathlib.Core.Path.{sym, _∙_}
 use Rattle.machine.specs.Machine.{machine}
-use Rattle.jobs.proofs.Giving as giving
+use Rattle.jobs.proofs.Calls as giving
 use borrow.Author.Needs.{needs}
 use Rattle.jobs.proofs.start.Statement.{statement}
 use Rattle.jobs.proofs.start.Tie as tie

@@ -1,8 +1,8 @@
 use Rattle.job_plans.specs.Places.{stepCheck}
 use mathlib.Core.Path.{sym, ap, _∙_}
 use Rattle.machine.specs.Machine.{machine}
-use Rattle.job_plans.proofs.Standing as standing
-use Rattle.jobs.proofs.Giving as giving
+use Rattle.job_plans.proofs.Places as standing
+use Rattle.jobs.proofs.Calls as giving
 use borrow.Author.Needs.{needs}
 use Rattle.jobs.proofs.step.Statement.{statement}
 use Rattle.jobs.proofs.step.Tie as tie

@@ -1,5 +1,5 @@
 use native.Mathlib.Omega.{arith}
-use Rattle.output.proofs.Putting.{none-put}
+use Rattle.output.proofs.Puts.{none-put}
 use Rattle.listing.proofs.Answers.{entry-held, no-response, no-word}
 use borrow.Author.Needs.{needs}
 use Rattle.listing.proofs.put_entry.Statement.{statement}

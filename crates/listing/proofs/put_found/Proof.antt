@@ -1,5 +1,5 @@
 use Rattle.listing.specs.Lists.{named, wordsText}
-use Rattle.output.proofs.Putting.{puts₃}
+use Rattle.output.proofs.Puts.{puts₃}
 use borrow.Author.Needs.{needs}
 use Rattle.listing.proofs.put_found.Statement.{statement}
 use Rattle.listing.proofs.put_found.Tie as tie

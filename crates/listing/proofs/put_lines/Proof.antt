@@ -3,7 +3,7 @@ use mathlib.Core.Path.{_≡_}
 use native.Mathlib.Omega.{arith}
 use lib.ListN.{length}
 use Rattle.listing.specs.Lists.{wordsText}
-use Rattle.output.proofs.Putting.{Rest}
+use Rattle.output.proofs.Puts.{Rest}
 use Rattle.listing.proofs.Loops.{words-left, words-less, words-all}
 use borrow.Author.Needs.{needs}
 use Rattle.listing.proofs.put_lines.Statement.{statement}

@@ -1,7 +1,7 @@
 -- The number says whether anything follows it, and what.
 use mathlib.Core.List.{[]}
 use mathlib.Core.Path.{sym}
-use Rattle.output.proofs.Putting.{none-put}
+use Rattle.output.proofs.Puts.{none-put}
 use Rattle.listing.specs.Lists.{named}
 use Rattle.listing.proofs.Answers.{refused, three-more, nine-more, no-more}
 use borrow.Author.Needs.{needs}

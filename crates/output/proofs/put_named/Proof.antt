@@ -1,5 +1,5 @@
 use Rattle.output.specs.Digits.{decimalDigits}
-use Rattle.output.proofs.Putting.{puts₂}
+use Rattle.output.proofs.Puts.{puts₂}
 use borrow.Author.Needs.{needs}
 use Rattle.output.proofs.put_named.Statement.{statement}
 use Rattle.output.proofs.put_named.Tie as tie

@@ -1,5 +1,5 @@
 use Rattle.output.specs.Digits.{hexDigits}
-use Rattle.output.proofs.Putting.{puts₂, hex-put}
+use Rattle.output.proofs.Puts.{puts₂, hex-put}
 use borrow.Author.Needs.{needs}
 use Rattle.output.proofs.put_named16.Statement.{statement}
 use Rattle.output.proofs.put_named16.Tie as tie

@@ -1,5 +1,5 @@
 use Rattle.output.specs.Digits.{pair}
-use Rattle.output.proofs.Putting.{puts₂}
+use Rattle.output.proofs.Puts.{puts₂}
 use borrow.Author.Needs.{needs}
 use Rattle.output.proofs.put_named2.Statement.{statement}
 use Rattle.output.proofs.put_named2.Tie as tie

@@ -1,6 +1,6 @@
 use mathlib.Core.Path.{sym, _∙_}
 use native.Mathlib.Omega.{arith}
-use Rattle.image_parts.proofs.Scans.{long}
+use Rattle.image_parts.proofs.Parts.{long}
 use Rattle.image.proofs.ReadCalls.{read-broken, read-sound}
 use borrow.Author.Needs.{needs}
 use Rattle.image.proofs.reading.check_read.Statement.{statement}

@@ -7,7 +7,7 @@ use lib.Seq.{sets}
 use borrow.Author.Needs.{needs}
 use Rattle.image_layout.specs.Sizes.{wordSize}
 use Rattle.image_layout.specs.Reading.{numbers}
-use Rattle.image_stores.proofs.Storing.{fill-turn, fill-none}
+use Rattle.image_stores.proofs.Stored.{fill-turn, fill-none}
 use Rattle.image.proofs.reading.fill_words.Statement.{statement}
 use Rattle.image.proofs.reading.fill_words.Tie as tie
 

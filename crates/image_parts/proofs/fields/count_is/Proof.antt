@@ -2,7 +2,7 @@ use Prim.Native.Nat.{ℕ}
 use mathlib.Core.Path.{ap}
 use lib.Dec.{eqb}
 use Rattle.image_layout.specs.Reading.{countIs}
-use Rattle.image_parts.proofs.Scans.{holds-cut, holds-read}
+use Rattle.image_parts.proofs.Parts.{holds-cut, holds-read}
 use borrow.Author.Needs.{needs}
 use Rattle.image_parts.proofs.fields.count_is.Statement.{statement}
 use Rattle.image_parts.proofs.fields.count_is.Tie as tie

@@ -2,7 +2,7 @@ use mathlib.Core.Path.{sym, ap, _∙_}
 use Rattle.job_plans.specs.declared.Held.the-variants.{Holds}
 use Rattle.image_layout.specs.Sizes.{countSize}
 use Rattle.image_layout.specs.Format.{numberAt}
-use Rattle.image_parts.proofs.Scans.{none-held, one-held}
+use Rattle.image_parts.proofs.Parts.{none-held, one-held}
 use borrow.Author.Needs.{needs}
 use Rattle.image_parts.proofs.fields.held_at.Statement.{statement}
 use Rattle.image_parts.proofs.fields.held_at.Tie as tie

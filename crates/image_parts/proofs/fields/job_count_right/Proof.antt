@@ -3,7 +3,7 @@ use mathlib.Core.Path.{ap}
 use lib.Dec.{leb}
 use Rattle.image_layout.specs.Sizes.{mostJobs}
 use Rattle.image_layout.specs.Reading.{jobCount}
-use Rattle.image_parts.proofs.Scans.{holds-cut, holds-read}
+use Rattle.image_parts.proofs.Parts.{holds-cut, holds-read}
 use borrow.Author.Needs.{needs}
 use Rattle.image_parts.proofs.fields.job_count_right.Statement.{statement}
 use Rattle.image_parts.proofs.fields.job_count_right.Tie as tie

@@ -3,7 +3,7 @@ use mathlib.Core.Bool.{true, false}
 use Rattle.machine.specs.Refusals.{passes}
 use Rattle.job_plans.specs.Places.{heldCheck}
 use Rattle.image_layout.specs.Reading.{jobField}
-use Rattle.image_parts.proofs.Scans.{holds-cut, holds-read}
+use Rattle.image_parts.proofs.Parts.{holds-cut, holds-read}
 use borrow.Author.Needs.{needs}
 use Rattle.image_parts.proofs.fields.job_right.Statement.{statement}
 use Rattle.image_parts.proofs.fields.job_right.Tie as tie

@@ -1,5 +1,5 @@
 use mathlib.Core.Path.{sym}
-use Rattle.image_parts.proofs.Scans.{too-many, all-read}
+use Rattle.image_parts.proofs.Parts.{too-many, all-read}
 use Rattle.image_parts.proofs.fields.scan_end.Statement.{statement}
 use Rattle.image_parts.proofs.fields.scan_end.Tie as tie
 

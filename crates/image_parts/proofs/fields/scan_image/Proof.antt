@@ -4,7 +4,7 @@ use native.Mathlib.Omega.{arith}
 use borrow.Author.Tests.{not-true, not-false}
 use Rattle.image_layout.specs.Sizes.{itemsAt, widthAt}
 use Rattle.image_layout.specs.Reading.{countIs, widthByte}
-use Rattle.image_parts.proofs.Scans.{held, head-count, head-width, head-words, head, words-broken, words-sound}
+use Rattle.image_parts.proofs.Parts.{held, head-count, head-width, head-words, head, words-broken, words-sound}
 use borrow.Author.Needs.{needs}
 use Rattle.image_parts.proofs.fields.scan_image.Statement.{statement}
 use Rattle.image_parts.proofs.fields.scan_image.Tie as tie

@@ -5,7 +5,7 @@ use lib.ListN.{length}
 use borrow.Author.Tests.{not-true, not-false}
 use Rattle.image_layout.specs.Sizes.{recordSize, itemsAt}
 use Rattle.image_layout.specs.Reading.{jobCount, jobField}
-use Rattle.image_parts.proofs.Scans.{held, field-wrong, job-none, job-one, job-end}
+use Rattle.image_parts.proofs.Parts.{held, field-wrong, job-none, job-one, job-end}
 use borrow.Author.Needs.{needs}
 use Rattle.image_parts.proofs.fields.scan_job.Statement.{statement}
 use Rattle.image_parts.proofs.fields.scan_job.Tie as tie

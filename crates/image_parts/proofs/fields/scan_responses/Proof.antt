@@ -8,7 +8,7 @@ use Rattle.image_layout.specs.declared.Scanned.the-variants.{Broken}
 use Rattle.image_layout.specs.Sizes.{responseSize, itemsAt, responsesAt}
 use Rattle.image_layout.specs.Reading.{scan, countIs}
 use Rattle.image_parts.specs.Parts.{holds, jobFields}
-use Rattle.image_parts.proofs.Scans.{held, field-wrong, after-cut, after-right}
+use Rattle.image_parts.proofs.Parts.{held, field-wrong, after-cut, after-right}
 use borrow.Author.Needs.{needs}
 use Rattle.image_parts.proofs.fields.scan_responses.Statement.{statement}
 use Rattle.image_parts.proofs.fields.scan_responses.Tie as tie

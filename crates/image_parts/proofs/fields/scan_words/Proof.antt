@@ -7,7 +7,7 @@ use mathlib.Core.List.{List, _++_}
 use native.Mathlib.Nat.{sub-zero}
 use Rattle.image_layout.specs.Sizes.{wordSize, itemsAt, wordsAt, responsesAt}
 use Rattle.image_layout.specs.Reading.{Field, scan, wordField}
-use Rattle.image_parts.proofs.Scans.{held, field-wrong, one-more, no-more, word-step}
+use Rattle.image_parts.proofs.Parts.{held, field-wrong, one-more, no-more, word-step}
 use Rattle.image_parts.proofs.fields.scan_words.Statement.{statement}
 use Rattle.image_parts.proofs.fields.scan_words.Tie as tie
 

@@ -3,7 +3,7 @@ use mathlib.Core.Bool.{not}
 use Rattle.machine.specs.Refusals.{badWidth}
 use Rattle.image_layout.specs.Sizes.{itemsAt, widthAt}
 use Rattle.image_layout.specs.Reading.{widthByte}
-use Rattle.image_parts.proofs.Scans.{holds-cut, holds-read}
+use Rattle.image_parts.proofs.Parts.{holds-cut, holds-read}
 use borrow.Author.Needs.{needs}
 use Rattle.image_parts.proofs.fields.width_right.Statement.{statement}
 use Rattle.image_parts.proofs.fields.width_right.Tie as tie

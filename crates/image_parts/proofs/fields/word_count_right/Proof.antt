@@ -4,7 +4,7 @@ use mathlib.Core.Bool.{_&&_}
 use lib.Dec.{leb}
 use Rattle.image_layout.specs.Sizes.{wordsAt}
 use Rattle.image_layout.specs.Reading.{wordCount}
-use Rattle.image_parts.proofs.Scans.{holds-cut, holds-read}
+use Rattle.image_parts.proofs.Parts.{holds-cut, holds-read}
 use borrow.Author.Needs.{needs}
 use Rattle.image_parts.proofs.fields.word_count_right.Statement.{statement}
 use Rattle.image_parts.proofs.fields.word_count_right.Tie as tie

@@ -2,7 +2,7 @@ use mathlib.Core.Path.{ap, _∙_}
 use mathlib.Core.Bool.{not}
 use Rattle.machine.specs.Refusals.{tooWide}
 use Rattle.image_layout.specs.Reading.{wordField}
-use Rattle.image_parts.proofs.Scans.{holds-cut, holds-read}
+use Rattle.image_parts.proofs.Parts.{holds-cut, holds-read}
 use borrow.Author.Needs.{needs}
 use Rattle.image_parts.proofs.fields.word_right.Statement.{statement}
 use Rattle.image_parts.proofs.fields.word_right.Tie as tie

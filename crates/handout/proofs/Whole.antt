@@ -18,7 +18,7 @@ use Rattle.rounds.specs.Round.{has, shown, answered, answeredAt, roundCheck, an
 use Rattle.handout.specs.Whole.{saysDone, verdictOf, tally, worked, isDone, isFaulty, afterEnded}
 use Rattle.rounds.specs.Handout.{responders, firstOf, Answers, none-yet, one-more}
 use Rattle.rounds.proofs.Passing.{accepted, acceptable}
-use Rattle.rounds.proofs.Answering.{lost, same-checks}
+use Rattle.rounds.proofs.Round.{lost, same-checks}
 use Rattle.handout.proofs.Answering.{answer-whole}
 use Rattle.handout.proofs.Lists.{each-all}
 use Rattle.rounds.proofs.Responders.{first-lowest, first-off}

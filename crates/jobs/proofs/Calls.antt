@@ -17,7 +17,7 @@ use Rattle.jobs.specs.declared.Stepped.the-variants as stepped
 use Rattle.job_plans.specs.Places.{stepCheck, first, next}
 use Rattle.job_plans.specs.Commands.{command}
 use Rattle.jobs.specs.Calls.{startCheck, startOf, gave, stepOf, afterStep}
-use Rattle.job_plans.proofs.Standing.{good, fair-held}
+use Rattle.job_plans.proofs.Places.{good, fair-held}
 use Rattle.jobs.proofs.Taken.{passes}
 
 -- ---- a step that is not turned down
