@@ -78,9 +78,9 @@ pub fn step(board: Board, rest: &[u8], words: &mut [u64], responses: &mut [Respo
 }
 
 // A run of steps: the job held after them, and how many were accepted.
-pub struct Progress {
-    pub held: Held,
-    pub steps: u64,
+struct Progress {
+    held: Held,
+    steps: u64,
 }
 
 // Steps until one is refused, and one without a job is; at most so many. Every job ends, as `ends` proves, long before 2^64.
