@@ -64,7 +64,7 @@ pulsesFor unknown m o = 0
 unfoldable pub pulses : Machine → Job → ℕ
 pulses m o = pulsesFor (kindOf (o .kind)) m o
 
--- ---- the call: refused as a step is, and with 8 if the place is not the first
+-- ---- the call, which 01 does not name (house): refused as a step is, and with 8 if the place is not the first
 
 abbrev pub isFirst : Held → Bool
 isFirst Nothing = false

@@ -18,12 +18,12 @@ use Rattle.machine.specs.declared.Found.{Found}
 use Rattle.machine.specs.declared.Found.the-variants.{At, Nothing}
 use Rattle.machine.specs.declared.Lines.{Lines}
 use Rattle.machine.specs.declared.Refusal.{Refusal}
-use Rattle.machine.specs.declared.Refusal.the-variants.{Size, Width, PanelTooWide, TwoCodes, WrongLines, NoSuchWord}
+use Rattle.machine.specs.declared.Refusal.the-variants.{Size, Width, WordTooWide, PanelTooWide, TwoCodes, WrongLines, NoSuchWord, Unfit, Malformed, NoRoom, NotShown}
 use Rattle.machine.specs.declared.Check.{Check}
 use Rattle.machine.specs.declared.Check.the-variants.{Passed, Refused}
 use Rattle.machine.specs.Resolution.{lowest}
 use Rattle.machine.specs.Machine.{Machine}
-use Rattle.machine.specs.Refusals.{badSize, badWidth, tooWide, badPanel, badCodes, badLines, badAddress, _else_, refuse, refuseWord, machineCheck, pulseCheck}
+use Rattle.machine.specs.Refusals.{badSize, badWidth, tooWide, badPanel, badCodes, badLines, badAddress, _else_, refuse, refuseWord, machineCheck, pulseCheck, tells}
 
 -- ---- one link of a chain, in the code's terms: d is what the code answers, t its test
 
@@ -73,6 +73,21 @@ pub none-lowest : (n k : ℕ) (ws : List ℕ) → ((j : ℕ) → j < length ws �
 unfolding lowest
 none-lowest n k [] h = refl
 none-lowest n k (w ∷ ws) h = rw (lt-leb (2 ^ n) w (h 0 (omega arith))) (none-lowest n (suc k) ws (λ j g. h (suc j) (omega arith)))
+
+-- ---- a refusal's number is not 0
+
+pub some-number : (r : Refusal) → tells r .0 ≡ 0 → ⊥
+some-number Size e = omega (arith, e)
+some-number Width e = omega (arith, e)
+some-number (WordTooWide k) e = omega (arith, e)
+some-number PanelTooWide e = omega (arith, e)
+some-number TwoCodes e = omega (arith, e)
+some-number WrongLines e = omega (arith, e)
+some-number NoSuchWord e = omega (arith, e)
+some-number Unfit e = omega (arith, e)
+some-number (Malformed place) e = omega (arith, e)
+some-number NoRoom e = omega (arith, e)
+some-number NotShown e = omega (arith, e)
 
 -- ---- what a check that is passed shows
 

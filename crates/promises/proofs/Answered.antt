@@ -13,7 +13,6 @@ use Rattle.machine.specs.declared.ResponseBit.{ResponseBit}
 use Rattle.machine.specs.declared.Found.{Found}
 use Rattle.machine.specs.declared.Found.the-variants.{At, Nothing}
 use Rattle.machine.specs.declared.Refusal.{Refusal}
-use Rattle.machine.specs.declared.Refusal.the-variants.{Size, Width, WordTooWide, PanelTooWide, TwoCodes, WrongLines, NoSuchWord, Unfit, Malformed, NoRoom, NotShown}
 use Rattle.machine.specs.declared.Check.{Check}
 use Rattle.machine.specs.declared.Check.the-variants.{Passed, Refused}
 use Rattle.machine.specs.declared.Answer.{Answer}
@@ -22,6 +21,7 @@ use Rattle.machine.specs.Machine.{Machine}
 use Rattle.machine.specs.Pulse.{countOf, readOf as wordRead, pulsed}
 use Rattle.machine.specs.Resolution as res
 use Rattle.machine.specs.Refusals.{_else_, refuse, machineCheck, pulseCheck, answerBy, changeBy, answerOf, after, tells, told}
+use Rattle.machine.proofs.Refusals.{some-number}
 use Rattle.job_plans.specs.declared.Job.{Job}
 use Rattle.job_plans.specs.declared.Held.{Held}
 use Rattle.job_plans.specs.declared.Held.the-variants.{Holds}
@@ -148,19 +148,9 @@ read-tells bs words responses = by-check tellsRead read.Refused (λ r. refl) (re
 
 -- ---- the whole answer: what it is where no condition of the table holds, and on a refusal that number, what it also answers, and else 0
 
-passes : (c : Check) → given c .0 ≡ 0 → c ≡ Passed
+pub passes : (c : Check) → given c .0 ≡ 0 → c ≡ Passed
 passes Passed h = refl
-passes (Refused Size) h = cc
-passes (Refused Width) h = cc
-passes (Refused (WordTooWide k)) h = cc
-passes (Refused PanelTooWide) h = cc
-passes (Refused TwoCodes) h = cc
-passes (Refused WrongLines) h = cc
-passes (Refused NoSuchWord) h = cc
-passes (Refused Unfit) h = cc
-passes (Refused (Malformed place)) h = cc
-passes (Refused NoRoom) h = cc
-passes (Refused NotShown) h = cc
+passes (Refused r) h = absurd (some-number r h)
 
 -- of any check whose number a table says
 accepted : (c : Check) (es : List Entry) → given c ≡ first es → first es .0 ≡ 0 → c ≡ Passed

@@ -30,16 +30,16 @@ use Rattle.machine.specs.declared.Check.the-variants.{Passed, Refused}
 use Rattle.machine.specs.declared.Lines.{Lines}
 use Rattle.machine.specs.declared.Panel.{Panel}
 use Rattle.machine.specs.declared.Refusal.{Refusal}
-use Rattle.machine.specs.declared.Refusal.the-variants as refusal
 use Rattle.machine.specs.declared.ResponseBit.{ResponseBit}
 use Rattle.machine.specs.declared.WordSlice.{WordSlice}
 use Rattle.machine.specs.Machine.{Machine, machine, responseBits}
 use Rattle.machine.specs.Panel.{panelOf, registers, load}
 use Rattle.machine.specs.Pulse as pulse
 use Rattle.machine.specs.Pulse.{countOf, pulsed}
-use Rattle.machine.specs.Refusals.{tooWide, machineCheck, pulseCheck, answerBy, changeBy, answerOf, after, tells}
+use Rattle.machine.specs.Refusals.{tooWide, machineCheck, pulseCheck, answerBy, changeBy, answerOf, after}
 use Rattle.machine.specs.Resolution.{resolved}
 use Rattle.machine.proofs.Loads.{held, load-that, load-no-other, same-panel}
+use Rattle.machine.proofs.Refusals.{some-number}
 use Rattle.panel.specs.Numbered.{takes}
 use Rattle.panel.proofs.Thin.{Value, number, word, signature, ended, clauses}
 use Rattle.resolver.specs.declared.Resolved.the-variants as found
@@ -67,7 +67,7 @@ use Rattle.image.specs.declared.Read.the-variants as back
 use Rattle.image.specs.declared.Wrote.the-variants as wrote
 use Rattle.image.specs.Calls.{writeCheck, writeOf, written, readCheck, readOf, wordsRead, responsesRead}
 use Rattle.entries.specs.Numbers.{linesOf, resultOf}
-use Rattle.promises.proofs.Answered.{tellsAnswer, tellsResolved, tellsReport, tellsStarted, tellsStepped, tellsTotal, tellsWrote, tellsRead, pulse-tells, resolution-tells, show-tells, answer-tells, round-tells, start-tells, step-tells, total-tells, write-tells, read-tells, pulse-unchanged, answer-unchanged, round-unchanged, step-unchanged, write-unchanged, read-unchanged}
+use Rattle.promises.proofs.Answered.{passes, tellsAnswer, tellsResolved, tellsReport, tellsStarted, tellsStepped, tellsTotal, tellsWrote, tellsRead, pulse-tells, resolution-tells, show-tells, answer-tells, round-tells, start-tells, step-tells, total-tells, write-tells, read-tells, pulse-unchanged, answer-unchanged, round-unchanged, step-unchanged, write-unchanged, read-unchanged}
 use Rattle.promises.proofs.Demand1.{Entry, first, given, machineTable, pulseTable, showTable, answerTable, roundTable, startTable, stepsTable, totalTable, writeTable, readTable, pulse-given, resolution-given, show-given, answer-given, round-given, start-given, step-given, total-given, write-given, read-given}
 use Rattle.cells.proofs.pulse as plain-pulse
 use Rattle.cells.proofs.pulse.Kinds as plain-pulse-kinds
@@ -169,28 +169,10 @@ pub record Leaves {A : Type 0} (refusal : ℕ) (before left now : A) : Type 0 wh
   pub leaves : now ≡ left
   pub unchanged : (refusal ≡ 0 → ⊥) → now ≡ before
 
--- a refusal's number is not 0
-no-zero : (r : Refusal) → tells r .0 ≡ 0 → ⊥
-no-zero refusal.Size e = omega (arith, e)
-no-zero refusal.Width e = omega (arith, e)
-no-zero (refusal.WordTooWide k) e = omega (arith, e)
-no-zero refusal.PanelTooWide e = omega (arith, e)
-no-zero refusal.TwoCodes e = omega (arith, e)
-no-zero refusal.WrongLines e = omega (arith, e)
-no-zero refusal.NoSuchWord e = omega (arith, e)
-no-zero refusal.Unfit e = omega (arith, e)
-no-zero (refusal.Malformed k) e = omega (arith, e)
-no-zero refusal.NoRoom e = omega (arith, e)
-no-zero refusal.NotShown e = omega (arith, e)
-
-passed : (c : Check) → given c .0 ≡ 0 → c ≡ Passed
-passed Passed e = refl
-passed (Refused r) e = absurd (no-zero r e)
-
 answers-by : {R : Type 0} (tell : R → ℕ × ℕ) {table : List Entry} (check : Check) (says : R) {done : R} (r : R)
     → tell says ≡ first table → given check ≡ first table → (check ≡ Passed → says ≡ done) → r ≡ says → Answers tell table check says done r
 answers-by tell check says r t g d e =
-    let p : tell r .0 ≡ 0 → check ≡ Passed = λ z. passed check (ap (λ (x : ℕ × ℕ). x .0) (g ∙ sym t ∙ sym (ap tell e)) ∙ z) in
+    let p : tell r .0 ≡ 0 → check ≡ Passed = λ z. passes check (ap (λ (x : ℕ × ℕ). x .0) (g ∙ sym t ∙ sym (ap tell e)) ∙ z) in
     record { answers = e; number = ap tell e ∙ t; accepted = λ z. (p z, e ∙ d (p z)) }
 
 -- what a call answers where its check is passed
@@ -265,7 +247,7 @@ an-entry m p l r ws rs e f g =
 
     count-of : (c : Check) → given c .0 ≡ 0 → resultOf (by c) ≡ countOf m p l
     count-of Passed z = omega arith
-    count-of (Refused why) z = absurd (no-zero why z)
+    count-of (Refused why) z = absurd (some-number why z)
 
     number-of : (c : Check) → (given c .0 ≡ 0 → ⊥) → resultOf (by c) ≡ given c .0 * 4294967296
     number-of Passed z = absurd (z refl)
