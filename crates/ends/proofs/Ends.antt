@@ -2,6 +2,7 @@
 use Prim.Native.Nat.{ℕ, zero, suc, _+_, _<_}
 use mathlib.Core.Path.{_≡_, refl, ap, _∙_}
 use native.Mathlib.Omega.{arith}
+use Rattle.laws.specs.Bits.{pick}
 use Rattle.machine.specs.Machine.{Machine}
 use Rattle.machine.specs.Refusals.{after}
 use Rattle.job_plans.specs.declared.Job.{Job}
@@ -11,7 +12,8 @@ use Rattle.job_plans.specs.declared.Command.{Command}
 use Rattle.job_plans.specs.Fields.{Kind, greatest, smallest, scaledAdd, product, unknown, kindOf, usedCheck}
 use Rattle.job_plans.specs.Places.{first}
 use Rattle.job_tally.specs.Totals.{pulses}
-use Rattle.jobs.specs.Runs.{State, stepped, steps, goOn, stepsTaken}
+use Rattle.jobs.specs.Calls.{isHeld}
+use Rattle.jobs.specs.Runs.{State, stepped, steps, stepsTaken}
 use Rattle.ends.specs.Ends.{Accepted, begun, Gives, commandAt, Course, ended}
 use Rattle.ends.proofs.Steps.{on, held-given, steps-on, steps-last, steps-idle}
 use Rattle.ends.proofs.Starts.{begins}
@@ -49,7 +51,7 @@ module _ (m : Machine) (o : Job) (accepted : Accepted m o) where
       ∙ steps-idle k (ended m o)
 
   -- the number of steps given until no job is held
-  goes-on : (h : Held) (k : ℕ) → (h ≡ Nothing → ⊥) → goOn h k ≡ suc k
+  goes-on : (h : Held) (k : ℕ) → (h ≡ Nothing → ⊥) → pick (isHeld h) (suc k) 0 ≡ suc k
   goes-on Nothing k n = absurd (n refl)
   goes-on (Holds q) k n = refl
 

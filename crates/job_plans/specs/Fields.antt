@@ -5,6 +5,7 @@ use mathlib.Core.Bool.{Bool, true, false, not, _&&_}
 use lib.Dec.{ltb, eqb}
 use Rattle.laws.specs.Bits.{pick}
 use Rattle.machine.specs.declared.Check.{Check}
+use Rattle.machine.specs.declared.Check.the-variants.{Passed}
 use Rattle.machine.specs.declared.Refusal.the-variants.{Unfit}
 use Rattle.machine.specs.declared.ResponseBit.{ResponseBit}
 use Rattle.machine.specs.Refusals.{_else_, refuse, bitCheck, apartCheck, careCheck}
@@ -18,14 +19,18 @@ job kind key care x y a b p phase i j c =
 
 -- "kind (1 to 4 as in the table)"
 pub data Kind : Type 0 where
-  greatest : Kind
-  smallest : Kind
-  scaledAdd : Kind
-  product : Kind
-  unknown : Kind
+  greatest smallest scaledAdd product unknown : Kind
 
 abbrev pub kindOf : ℕ → Kind
 kindOf k = pick (eqb k 1) greatest (pick (eqb k 2) smallest (pick (eqb k 3) scaledAdd (pick (eqb k 4) product unknown)))
+
+-- what is said of extremes, of scaled adds, of products, and of a kind that isn't in the table, in this order
+abbrev pub byKind : {A : Type 0} → Kind → A → A → A → A → A
+byKind greatest e s p u = e
+byKind smallest e s p u = e
+byKind scaledAdd e s p u = s
+byKind product e s p u = p
+byKind unknown e s p u = u
 
 -- ---- used fields
 
@@ -44,47 +49,34 @@ overlaps s t = ltb (s .low .0) (t .low .0 + t .width) && ltb (t .low .0) (s .low
 abbrev pub overlapCheck : Span → Span → Check
 overlapCheck p s = refuse Unfit (overlaps p s)
 
+-- asked only if the field is used
+abbrev pub ifUsed : Bool → Check → Check
+ifUsed used c = pick used c Passed
+
+-- Every job uses A and Y; x, b and p say whether it uses X, B and P.
 -- What is asked of every syllable is asked of A, then B, then P, before the next thing is asked (house); working bits last.
+abbrev pub fieldsCheck : Bool → Bool → Bool → ℕ → Job → Check
+fieldsCheck x b p n o = emptyCheck (o .a) else ifUsed b (emptyCheck (o .b)) else ifUsed p (emptyCheck (o .p))
+    else beyondCheck n (o .a) else ifUsed b (beyondCheck n (o .b)) else ifUsed p (beyondCheck n (o .p))
+    else ifUsed p (overlapCheck (o .p) (o .a)) else ifUsed b (overlapCheck (o .p) (o .b))
+    else ifUsed x (bitCheck (o .x)) else bitCheck (o .y)
+    else ifUsed x (apartCheck (o .x) (o .y)) else ifUsed x (careCheck (o .care) (o .x)) else careCheck (o .care) (o .y)
+
+-- extremes use X, Y and A
 unfoldable pub extremeCheck : ℕ → Job → Check
-extremeCheck n o =
-    emptyCheck (o .a)
-    else beyondCheck n (o .a)
-    else bitCheck (o .x)
-    else bitCheck (o .y)
-    else apartCheck (o .x) (o .y)
-    else careCheck (o .care) (o .x)
-    else careCheck (o .care) (o .y)
+extremeCheck n o = fieldsCheck true false false n o
 
+-- a scaled add Y, A and P
 unfoldable pub scaledAddCheck : ℕ → Job → Check
-scaledAddCheck n o =
-    emptyCheck (o .a)
-    else emptyCheck (o .p)
-    else beyondCheck n (o .a)
-    else beyondCheck n (o .p)
-    else overlapCheck (o .p) (o .a)
-    else bitCheck (o .y)
-    else careCheck (o .care) (o .y)
+scaledAddCheck n o = fieldsCheck false false true n o
 
+-- a product Y, A, B and P
 unfoldable pub productCheck : ℕ → Job → Check
-productCheck n o =
-    emptyCheck (o .a)
-    else emptyCheck (o .b)
-    else emptyCheck (o .p)
-    else beyondCheck n (o .a)
-    else beyondCheck n (o .b)
-    else beyondCheck n (o .p)
-    else overlapCheck (o .p) (o .a)
-    else overlapCheck (o .p) (o .b)
-    else bitCheck (o .y)
-    else careCheck (o .care) (o .y)
+productCheck n o = fieldsCheck false true true n o
 
 -- "a job kind .. not in the table"
 abbrev pub usedCheckFor : Kind → ℕ → Job → Check
-usedCheckFor greatest n o = extremeCheck n o
-usedCheckFor smallest n o = extremeCheck n o
-usedCheckFor scaledAdd n o = scaledAddCheck n o
-usedCheckFor product n o = productCheck n o
-usedCheckFor unknown n o = refuse Unfit true
+usedCheckFor k n o = byKind k (extremeCheck n o) (scaledAddCheck n o) (productCheck n o) (refuse Unfit true)
 
 unfoldable pub usedCheck : ℕ → Job → Check
 usedCheck n o = usedCheckFor (kindOf (o .kind)) n o
@@ -96,11 +88,8 @@ isZero s = eqb (s .low .0) 0 && eqb (s .width) 0
 
 -- extremes use no B, P, j and c; a scaled add no X, B and j; a product no X and c
 abbrev pub unusedZeroFor : Kind → Job → Bool
-unusedZeroFor greatest o = isZero (o .b) && isZero (o .p) && eqb (o .j) 0 && eqb (o .c) 0
-unusedZeroFor smallest o = isZero (o .b) && isZero (o .p) && eqb (o .j) 0 && eqb (o .c) 0
-unusedZeroFor scaledAdd o = eqb (o .x .0) 0 && isZero (o .b) && eqb (o .j) 0
-unusedZeroFor product o = eqb (o .x .0) 0 && eqb (o .c) 0
-unusedZeroFor unknown o = false
+unusedZeroFor k o = byKind k (isZero (o .b) && isZero (o .p) && eqb (o .j) 0 && eqb (o .c) 0)
+    (eqb (o .x .0) 0 && isZero (o .b) && eqb (o .j) 0) (eqb (o .x .0) 0 && eqb (o .c) 0) false
 
 unfoldable pub unusedZero : Job → Bool
 unusedZero o = unusedZeroFor (kindOf (o .kind)) o

@@ -14,7 +14,7 @@ use Rattle.job_plans.specs.declared.Span.{Span}
 use Rattle.job_plans.specs.declared.Job.{Job}
 use Rattle.job_plans.specs.declared.Held.{Held}
 use Rattle.job_plans.specs.declared.Held.the-variants.{Nothing, Holds}
-use Rattle.job_plans.specs.Fields.{job, Kind, greatest, smallest, scaledAdd, product, unknown, kindOf, usedCheck, unusedCheck}
+use Rattle.job_plans.specs.Fields.{job, Kind, kindOf, byKind, usedCheck, unusedCheck}
 
 -- ---- "A place outside the job's table is malformed."
 
@@ -34,11 +34,7 @@ abbrev pub productPlace : Job → Bool
 productPlace o = atPlace o && ltb (o .i) (o .a .width) && ltb (o .j) (o .b .width) && ltb (o .i + o .j) (o .p .width)
 
 abbrev pub inTableFor : Kind → Job → Bool
-inTableFor greatest o = extremePlace o
-inTableFor smallest o = extremePlace o
-inTableFor scaledAdd o = scaledPlace o
-inTableFor product o = productPlace o
-inTableFor unknown o = false
+inTableFor k o = byKind k (extremePlace o) (scaledPlace o) (productPlace o) false
 
 unfoldable pub inTable : Job → Bool
 inTable o = inTableFor (kindOf (o .kind)) o
@@ -74,11 +70,9 @@ noBit = record { 0 = 0 }
 
 -- "In phase 0, i is a-1 .. the others begin at phase 1 with i and j 0."
 abbrev pub firstFor : Kind → Job → Job
-firstFor greatest o = job (o .kind) (o .key) (o .care) (o .x) (o .y) (o .a) none none 0 (o .a .width - 1) 0 0
-firstFor smallest o = job (o .kind) (o .key) (o .care) (o .x) (o .y) (o .a) none none 0 (o .a .width - 1) 0 0
-firstFor scaledAdd o = job (o .kind) (o .key) (o .care) noBit (o .y) (o .a) none (o .p) 1 0 0 (o .c)
-firstFor product o = job (o .kind) (o .key) (o .care) noBit (o .y) (o .a) (o .b) (o .p) 1 0 0 0
-firstFor unknown o = o
+firstFor k o = byKind k (job (o .kind) (o .key) (o .care) (o .x) (o .y) (o .a) none none 0 (o .a .width - 1) 0 0)
+    (job (o .kind) (o .key) (o .care) noBit (o .y) (o .a) none (o .p) 1 0 0 (o .c))
+    (job (o .kind) (o .key) (o .care) noBit (o .y) (o .a) (o .b) (o .p) 1 0 0 0) o
 
 unfoldable pub first : Job → Job
 first o = firstFor (kindOf (o .kind)) o
@@ -108,21 +102,13 @@ nextWithin o = pick (ltb (o .j + 1) (o .b .width) && ltb (o .i + (o .j + 1)) (o 
 
 -- after the trial search, which counted m: "and, if any matched, ..." for extremes
 abbrev pub afterTrial : Kind → Job → ℕ → Held
-afterTrial greatest o m = pick (eqb m 0) (nextBelow o (o .i)) (Holds (moved o 2 (o .i) 0))
-afterTrial smallest o m = pick (eqb m 0) (nextBelow o (o .i)) (Holds (moved o 2 (o .i) 0))
-afterTrial scaledAdd o m = Holds (moved o 2 (o .i) (o .j))
-afterTrial product o m = Holds (moved o 2 (o .i) (o .j))
-afterTrial unknown o m = Nothing
+afterTrial k o m = byKind k (pick (eqb m 0) (nextBelow o (o .i)) (Holds (moved o 2 (o .i) 0)))
+    (Holds (moved o 2 (o .i) (o .j))) (Holds (moved o 2 (o .i) (o .j))) Nothing
 
 -- after the pulse after it
 abbrev pub afterSecond : Kind → Job → Held
-afterSecond greatest o = nextBelow o (o .i)
-afterSecond smallest o = nextBelow o (o .i)
-afterSecond scaledAdd o = nextAbove o
-afterSecond product o = nextWithin o
-afterSecond unknown o = Nothing
+afterSecond k o = byKind k (nextBelow o (o .i)) (nextAbove o) (nextWithin o) Nothing
 
 unfoldable pub next : Job → ℕ → Held
-next o m =
-    pick (eqb (o .phase) 0) (Holds (moved o 1 (o .i) 0))
+next o m = pick (eqb (o .phase) 0) (Holds (moved o 1 (o .i) 0))
     (pick (eqb (o .phase) 1) (afterTrial (kindOf (o .kind)) o m) (afterSecond (kindOf (o .kind)) o))

@@ -20,7 +20,7 @@ use Rattle.jobs.specs.declared.Stepped.the-variants as stepped
 use Rattle.job_plans.specs.Fields.{usedCheck}
 use Rattle.job_plans.specs.Places.{noneHeld, first, next}
 unfoldable pub use Rattle.job_plans.specs.Places.{stepCheck}
-use Rattle.job_plans.specs.Commands.{command}
+use Rattle.job_plans.specs.Commands.{raising, command}
 
 -- ---- start
 
@@ -44,10 +44,7 @@ startOf m h o = answerBy (startCheck m h o) started.Refused (started.Holds (firs
 -- "A job step answers the command it gave", the count and the job held afterwards
 abbrev pub gave : Machine → Held → Stepped
 gave m Nothing = stepped.Refused noneHeld
-gave m (Holds o) =
-    let k = command o in
-    let c = countOf m (k .panel) (k .lines) in
-    stepped.Gave k c (next o c)
+gave m (Holds o) = let k = command o in let c = countOf m (k .panel) (k .lines) in stepped.Gave k c (next o c)
 
 unfoldable pub stepOf : Machine → Held → Stepped
 stepOf m h = answerBy (stepCheck m h) stepped.Refused (gave m h)
@@ -74,11 +71,7 @@ toldStarted (started.Refused r) = record { refusal = numberOf r; also = alsoAnsw
 
 -- a command's 0 (house): every register 0 and no line raised
 abbrev pub noCommand : Command
-noCommand =
-    record {
-      panel = panelOf [];
-      lines = record { search = false; read = false; write = false; add = false; multiwrite = false; multiadd = false; complement = false };
-    }
+noCommand = record { panel = panelOf []; lines = raising false false }
 
 -- of a step: the command that it gave, the count and the job held afterwards
 pub record ToldStepped : Type 0 where

@@ -1,12 +1,12 @@
 -- Document 01, 'Jobs': a job's steps one after the other, where nothing but its steps changes the machine.
 use Prim.Native.Nat.{ℕ, zero, suc}
 use mathlib.Core.List.{List}
+use Rattle.laws.specs.Bits.{pick}
 use Rattle.machine.specs.Machine.{Machine, machine}
 use Rattle.job_plans.specs.declared.Held.{Held}
-use Rattle.job_plans.specs.declared.Held.the-variants.{Nothing, Holds}
 use Rattle.jobs.specs.declared.Stepped.{Stepped}
 use Rattle.jobs.specs.declared.Stepped.the-variants as answer
-use Rattle.jobs.specs.Calls.{stepOf, afterStep}
+use Rattle.jobs.specs.Calls.{isHeld, stepOf, afterStep}
 
 -- the machine and its held job
 pub record State : Type 0 where
@@ -31,10 +31,6 @@ steps zero s = s
 steps (suc k) s = steps k (stepped s)
 
 -- how many steps are given until no job is held, of at most `most`
-abbrev pub goOn : Held → ℕ → ℕ
-goOn Nothing k = 0
-goOn (Holds o) k = suc k
-
 unfoldable pub stepsTaken : ℕ → State → ℕ
 stepsTaken zero s = 0
-stepsTaken (suc most) s = goOn (s .held) (stepsTaken most (stepped s))
+stepsTaken (suc most) s = pick (isHeld (s .held)) (suc (stepsTaken most (stepped s))) 0
