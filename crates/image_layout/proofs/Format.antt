@@ -12,7 +12,7 @@ use Rattle.job_plans.specs.declared.Job.{Job}
 use Rattle.job_plans.specs.declared.Held.{Held}
 use Rattle.job_plans.specs.declared.Held.the-variants.{Nothing, Holds}
 use Rattle.job_plans.specs.declared.Span.{Span}
-use Rattle.image_layout.specs.Sizes.{countSize, responseSize, recordSize, mostJobs, kindAt, keyAt, careAt, bitsAt, aAt, bAt, pAt, placeAt, constantAt, constantSize}
+use Rattle.image_layout.specs.Sizes.{countSize, responseSize, recordSize, mostJobs, bitsAt, constantSize}
 use Rattle.image_layout.specs.Format.{bytes, value, numberAt, items, section, byte, bitAt, spanAt, jobOf, jobBytes, heldJobs, heldOf, Under, AreBytes, JobFits}
 
 -- ---- lists of bytes
@@ -131,9 +131,9 @@ length-jobs (o ∷ os) = omega (arith, length-append (jobBytes o) (items jobByte
 
 -- a job from its parts
 pub made : (s : List ℕ) (kind key care : ℕ) (x y : ResponseBit) (a b p : Span) (phase i j c : ℕ)
-    → kind ≡ byte s kindAt → key ≡ numberAt responseSize keyAt s → care ≡ numberAt responseSize careAt s → x ≡ bitAt s bitsAt → y ≡ bitAt s (bitsAt + 1)
-    → a ≡ spanAt s aAt → b ≡ spanAt s bAt → p ≡ spanAt s pAt
-    → phase ≡ byte s placeAt → i ≡ byte s (placeAt + 1) → j ≡ byte s (placeAt + 2) → c ≡ numberAt constantSize constantAt s
+    → kind ≡ byte s 0 → key ≡ numberAt responseSize 1 s → care ≡ numberAt responseSize (1 + responseSize) s → x ≡ bitAt s bitsAt → y ≡ bitAt s (bitsAt + 1)
+    → a ≡ spanAt s (bitsAt + 2) → b ≡ spanAt s (bitsAt + 4) → p ≡ spanAt s (bitsAt + 6)
+    → phase ≡ byte s (bitsAt + 8) → i ≡ byte s (bitsAt + 9) → j ≡ byte s (bitsAt + 10) → c ≡ numberAt constantSize (bitsAt + 11) s
     → record { kind = kind; key = key; care = care; x = x; y = y; a = a; b = b; p = p; phase = phase; i = i; j = j; c = c } ≡ jobOf s
 made s kind key care x y a b p phase i j c e0 e1 e2 e3 e4 e5 e6 e7 e8 e9 e10 e11 = rw (e0, e1, e2, e3, e4, e5, e6, e7, e8, e9, e10, e11)
 
@@ -150,22 +150,22 @@ module _ (s : List ℕ) (h : length s ≡ recordSize) (u : AreBytes s) where
   some : (t : List ℕ) (k at : ℕ) → at + k ≤ recordSize → t ≡ drop (at + k) s → bytes k (numberAt k at s) ++ t ≡ drop at s
   some t k at l e = ap (λ (x : List ℕ). bytes k (numberAt k at s) ++ x) e ∙ sym (number-cut s u k at (omega arith))
 
-  last : bytes constantSize (numberAt constantSize constantAt s) ≡ drop constantAt s
+  last : bytes constantSize (numberAt constantSize (bitsAt + 11) s) ≡ drop (bitsAt + 11) s
   last =
       let z : drop recordSize s ≡ [] = ap (λ (q : ℕ). drop q s) (sym h) ∙ drop-length s in
-      sym (append-nil _) ∙ some [] constantSize constantAt (omega arith) (sym z)
+      sym (append-nil _) ∙ some [] constantSize (bitsAt + 11) (omega arith) (sym z)
 
   pub job-law : jobBytes (jobOf s) ≡ s
   job-law =
-      one _ kindAt (omega arith) (some _ responseSize keyAt (omega arith) (some _ responseSize careAt (omega arith)
-      (one _ bitsAt (omega arith) (one _ (bitsAt + 1) (omega arith) (one _ aAt (omega arith) (one _ (aAt + 1) (omega arith)
-      (one _ bAt (omega arith) (one _ (bAt + 1) (omega arith) (one _ pAt (omega arith) (one _ (pAt + 1) (omega arith)
-      (one _ placeAt (omega arith) (one _ (placeAt + 1) (omega arith) (one _ (placeAt + 2) (omega arith) last)))))))))))))
+      one _ 0 (omega arith) (some _ responseSize 1 (omega arith) (some _ responseSize (1 + responseSize) (omega arith)
+      (one _ bitsAt (omega arith) (one _ (bitsAt + 1) (omega arith) (one _ (bitsAt + 2) (omega arith) (one _ (bitsAt + 3) (omega arith)
+      (one _ (bitsAt + 4) (omega arith) (one _ (bitsAt + 5) (omega arith) (one _ (bitsAt + 6) (omega arith) (one _ (bitsAt + 7) (omega arith)
+      (one _ (bitsAt + 8) (omega arith) (one _ (bitsAt + 9) (omega arith) (one _ (bitsAt + 10) (omega arith) last)))))))))))))
 
   -- what a record of bytes says is of a job's types
   pub job-fits : JobFits (jobOf s)
   job-fits =
-      (number-lt s u responseSize keyAt (omega arith), number-lt s u responseSize careAt (omega arith), number-lt s u constantSize constantAt (omega arith))
+      (number-lt s u responseSize 1 (omega arith), number-lt s u responseSize (1 + responseSize) (omega arith), number-lt s u constantSize (bitsAt + 11) (omega arith))
 
 -- a number of the record that begins at this place
 pub in-record : (b : List ℕ) (at p k : ℕ) → p + k ≤ recordSize → numberAt k (at + p) b ≡ numberAt k p (take recordSize (drop at b))

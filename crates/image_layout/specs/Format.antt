@@ -10,7 +10,7 @@ use Rattle.job_plans.specs.Fields.{job}
 use Rattle.job_plans.specs.declared.Held.{Held}
 use Rattle.job_plans.specs.declared.Held.the-variants.{Nothing, Holds}
 use Rattle.jobs.specs.Runs.{State}
-use Rattle.image_layout.specs.Sizes.{countSize, widthSize, wordSize, responseSize, kindAt, keyAt, careAt, bitsAt, aAt, bAt, pAt, placeAt, constantAt, constantSize}
+use Rattle.image_layout.specs.Sizes.{countSize, widthSize, wordSize, responseSize, bitsAt, constantSize}
 
 -- "low byte first": k bytes of a number, and the number that bytes stand for
 unfoldable pub bytes : ℕ → ℕ → List ℕ
@@ -27,11 +27,8 @@ numberAt k at bs = value (take k (drop at bs))
 
 -- "kind (1 to 4 as in the table), key, care, X, Y, lowest bit and width of A, B, P, phase, i, j, then c in 8 bytes, low first"
 abbrev pub jobBytes : Job → List ℕ
-jobBytes o =
-    o .kind ∷ (bytes responseSize (o .key) ++ (bytes responseSize (o .care)
-    ++ (o .x .0 ∷ o .y .0
-    ∷ o .a .low .0 ∷ o .a .width ∷ o .b .low .0 ∷ o .b .width ∷ o .p .low .0 ∷ o .p .width
-    ∷ o .phase ∷ o .i ∷ o .j ∷ bytes constantSize (o .c))))
+jobBytes o = o .kind ∷ (bytes responseSize (o .key) ++ (bytes responseSize (o .care) ++ (o .x .0 ∷ o .y .0
+    ∷ o .a .low .0 ∷ o .a .width ∷ o .b .low .0 ∷ o .b .width ∷ o .p .low .0 ∷ o .p .width ∷ o .phase ∷ o .i ∷ o .j ∷ bytes constantSize (o .c))))
 
 abbrev pub byte : List ℕ → ℕ → ℕ
 byte bs k = getD bs k 0
@@ -42,12 +39,11 @@ bitAt bs k = record { 0 = byte bs k }
 abbrev pub spanAt : List ℕ → ℕ → Span
 spanAt bs k = record { low = record { 0 = byte bs k }; width = byte bs (k + 1) }
 
--- the job that a record's bytes say
+-- the job that a record's bytes say, in the same order: kind, key and care, then from `bitsAt` on
 abbrev pub jobOf : List ℕ → Job
-jobOf bs =
-    job (byte bs kindAt) (numberAt responseSize keyAt bs) (numberAt responseSize careAt bs) (bitAt bs bitsAt) (bitAt bs (bitsAt + 1))
-    (spanAt bs aAt) (spanAt bs bAt) (spanAt bs pAt)
-    (byte bs placeAt) (byte bs (placeAt + 1)) (byte bs (placeAt + 2)) (numberAt constantSize constantAt bs)
+jobOf bs = job (byte bs 0) (numberAt responseSize 1 bs) (numberAt responseSize (1 + responseSize) bs)
+    (bitAt bs bitsAt) (bitAt bs (bitsAt + 1)) (spanAt bs (bitsAt + 2)) (spanAt bs (bitsAt + 4)) (spanAt bs (bitsAt + 6))
+    (byte bs (bitsAt + 8)) (byte bs (bitsAt + 9)) (byte bs (bitsAt + 10)) (numberAt constantSize (bitsAt + 11) bs)
 
 -- "each after its count (4 bytes, low byte first)"
 unfoldable pub items : {A : Type 0} → (A → List ℕ) → List A → List ℕ
@@ -69,8 +65,7 @@ heldOf (o ∷ os) = Holds o
 -- "Four sections in this order": "width, count 1, one byte N; words, count n, 8 bytes each, low byte first; responses, count n, one byte each; job"
 -- "The panel isn't stored; the machine an image stands for is width, words, responses and job."
 unfoldable pub imageOf : State → List ℕ
-imageOf s =
-    section (bytes widthSize) (s .machine .width ∷ [])
+imageOf s = section (bytes widthSize) (s .machine .width ∷ [])
     ++ (section (bytes wordSize) (s .machine .words)
     ++ (section (bytes responseSize) (s .machine .responses)
     ++ section jobBytes (heldJobs (s .held))))

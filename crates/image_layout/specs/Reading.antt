@@ -24,8 +24,7 @@ pub record Field : Type 0 where
 -- field by field from this place on
 unfoldable pub scan : List Field → ℕ → List ℕ → Scanned
 scan [] at bs = pick (eqb (length bs) 0) Sound (Broken at)
-scan (f ∷ fs) at bs =
-    pick (ltb (length bs) (f .size)) (Broken at)
+scan (f ∷ fs) at bs = pick (ltb (length bs) (f .size)) (Broken at)
     (pick (f .right (take (f .size) bs)) (scan fs (at + f .size) (drop (f .size) bs)) (Broken at))
 
 -- ---- the fields, each with its rule
@@ -66,8 +65,7 @@ abbrev pub jobsIn : List ℕ → ℕ
 jobsIn bs = numberAt countSize (jobsAt (wordsIn bs)) bs
 
 unfoldable pub fieldsOf : List ℕ → List Field
-fieldsOf bs =
-    countIs 1 ∷ widthByte
+fieldsOf bs = countIs 1 ∷ widthByte
     ∷ wordCount ∷ (replicate (wordsIn bs) (wordField (widthIn bs))
     ++ (countIs (wordsIn bs) ∷ (replicate (wordsIn bs) responseField
     ++ (jobCount ∷ replicate (jobsIn bs) (jobField (widthIn bs))))))
@@ -91,8 +89,7 @@ abbrev pub jobsOf : List ℕ → List Job
 jobsOf bs = records (jobsIn bs) (drop (itemsAt (jobsAt (wordsIn bs))) bs)
 
 unfoldable pub stateIn : List ℕ → State
-stateIn bs =
-    let n = wordsIn bs in
+stateIn bs = let n = wordsIn bs in
     state (widthIn bs) (numbers wordSize n (drop (itemsAt wordsAt) bs)) (numbers responseSize n (drop (itemsAt (responsesAt n)) bs)) (heldOf (jobsOf bs))
 
 -- ---- words of the theorems

@@ -54,35 +54,9 @@ imageSize n k = pastSection (jobsAt n) recordSize k
 
 -- ---- where the parts of a job's record stand in it
 
-abbrev pub kindAt : ℕ
-kindAt = 0
-
-abbrev pub keyAt : ℕ
-keyAt = kindAt + 1
-
-abbrev pub careAt : ℕ
-careAt = keyAt + responseSize
-
--- X, then Y
+-- after kind (one byte), key and care: X, Y, lowest bit and width of A, B, P, phase, i, j, one byte each, then c
 abbrev pub bitsAt : ℕ
-bitsAt = careAt + responseSize
-
--- a syllable has two bytes
-abbrev pub aAt : ℕ
-aAt = bitsAt + 2
-
-abbrev pub bAt : ℕ
-bAt = aAt + 2
-
-abbrev pub pAt : ℕ
-pAt = bAt + 2
-
--- phase, i, j
-abbrev pub placeAt : ℕ
-placeAt = pAt + 2
-
-abbrev pub constantAt : ℕ
-constantAt = placeAt + 3
+bitsAt = 1 + responseSize + responseSize
 
 -- "c in 8 bytes"
 abbrev pub constantSize : ℕ

@@ -1,9 +1,9 @@
 use native.Mathlib.Omega.{arith}
-use Prim.Native.Nat.{ℕ}
+use Prim.Native.Nat.{ℕ, _+_}
 use mathlib.Core.Path.{_≡_, _∙_}
 use Rattle.machine.specs.declared.ResponseBit.{ResponseBit}
 use lib.ListN.{take, drop}
-use Rattle.image_layout.specs.Sizes.{responseSize, recordSize, keyAt, careAt, constantAt, constantSize}
+use Rattle.image_layout.specs.Sizes.{responseSize, recordSize, bitsAt, constantSize}
 use Rattle.image_layout.proofs.Format.{in-record, made}
 use borrow.Author.Needs.{needs}
 use Rattle.image_parts.proofs.fields.job_at.Statement.{statement}
@@ -71,11 +71,11 @@ returns c =
     let a = c .before .before .before .before .before .before .before .before .before .before .before .before .before .args in
     let b = a .image .now in
     made (take recordSize (drop (a .at) b)) _ _ _ _ _ _ _ _ _ _ _ _ (c .before .before .before .before .before .byte-at3 .ensures)
-    (c .before .before .before .before .response-at .ensures ∙ in-record b (a .at) keyAt responseSize (omega arith)) (c .before .before .before .response-at2 .ensures ∙ in-record b (a .at) careAt responseSize (omega arith))
+    (c .before .before .before .before .response-at .ensures ∙ in-record b (a .at) 1 responseSize (omega arith)) (c .before .before .before .response-at2 .ensures ∙ in-record b (a .at) (1 + responseSize) responseSize (omega arith))
     (bit-made _ _ (c .before .before .before .before .before .before .before .before .before .before .byte-at .ensures)) (bit-made _ _ (c .before .before .before .before .before .before .before .before .before .byte-at2 .ensures))
     (c .before .before .before .before .before .before .before .before .span-at .ensures) (c .before .before .before .before .before .before .before .span-at2 .ensures) (c .before .before .before .before .before .before .span-at3 .ensures)
     (c .before .before .byte-at4 .ensures) (c .before .byte-at5 .ensures) (c .byte-at6 .ensures)
-    (c .before .before .before .before .before .before .before .before .before .before .before .number-at .ensures .0 ∙ in-record b (a .at) constantAt constantSize (omega arith))
+    (c .before .before .before .before .before .before .before .before .before .before .before .number-at .ensures .0 ∙ in-record b (a .at) (bitsAt + 11) constantSize (omega arith))
 
 pub job-at-spec : {M : Type 1} → statement M
 job-at-spec =
