@@ -23,8 +23,7 @@ abbrev pub saysDone : List ℕ → ℕ → Bool
 saysDone vs k = eqb (getD vs k 0) 1
 
 abbrev pub verdictBy : Bool → Verdict
-verdictBy true = Done
-verdictBy false = Faulty
+verdictBy done = pick done Done Faulty
 
 abbrev pub verdictOf : List ℕ → ℕ → Verdict
 verdictOf vs k = verdictBy (saysDone vs k)

@@ -56,8 +56,7 @@ unfoldable pub readCheck : List ℕ → ℕ → ℕ → Check
 readCheck bs words responses = refuseBytes (scanned bs) else refuse NoRoom (ltb words (wordsIn bs) || ltb responses (wordsIn bs))
 
 unfoldable pub readOf : List ℕ → ℕ → ℕ → Read
-readOf bs words responses =
-    let s = stateIn bs in
+readOf bs words responses = let s = stateIn bs in
     answerBy (readCheck bs words responses) read.Refused (read.Machine (s .machine .width) (length (s .machine .words)) (s .held))
 
 -- "Reading changes only the first n of each destination"

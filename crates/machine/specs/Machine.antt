@@ -43,8 +43,7 @@ abbrev pub downFrom : ℕ → ℕ → Syllable
 downFrom sdr i = record { low = bottom sdr i; width = suc i - bottom sdr i }
 
 abbrev pub keep : Bool → Syllable → List Syllable → List Syllable
-keep true y ys = y ∷ ys
-keep false y ys = ys
+keep top y ys = pick top (y ∷ ys) ys
 
 -- the syllables whose top bits are among the m bits from bit i up, lowest first
 unfoldable pub tops : ℕ → ℕ → ℕ → ℕ → List Syllable

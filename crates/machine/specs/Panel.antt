@@ -11,8 +11,7 @@ registers p = p .comp ∷ p .sdr ∷ p .sc1 ∷ p .sc2 ∷ p .mor ∷ p .key ∷
 
 -- the panel with these registers; those that the list doesn't reach are 0
 abbrev pub panelOf : List ℕ → Panel
-panelOf rs =
-    let at : ℕ → ℕ = λ k. getD rs k 0 in
+panelOf rs = let at : ℕ → ℕ = λ k. getD rs k 0 in
     record { comp = at 0; sdr = at 1; sc1 = at 2; sc2 = at 3; mor = at 4; key = at 5; care = at 6; target = at 7; address = record { 0 = at 8 } }
 
 -- "Loading one register of the panel changes that register and no other": the registers after register k is loaded with v. A panel has no other.

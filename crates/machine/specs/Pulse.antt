@@ -43,9 +43,7 @@ change n true true w x y = bothOf n x y
 -- "read, write, add (the last three at the address)", multiwrite and multiadd "in all selected words".
 -- "Two writes on one word write once; two adds add once (house)."
 unfoldable pub wordAfter : ℕ → Panel → Lines → ℕ → ℕ → ℕ → ℕ
-wordAfter n p l k w r =
-    let addressed = eqb k (p .address .0) in
-    let chosen = selected (p .key) (p .care) r in
+wordAfter n p l k w r = let addressed = eqb k (p .address .0) in let chosen = selected (p .key) (p .care) r in
     change n (l .write && addressed || l .multiwrite && chosen) (l .add && addressed || l .multiadd && chosen) w (written n p w) (added n p w)
 
 -- "In selected words the target bits flip."
@@ -53,8 +51,7 @@ unfoldable pub flipped : ℕ → ℕ → ℕ
 flipped target r = number responseBits (under target (λ i. 1 - bit r i) (bit r))
 
 unfoldable pub responseAfter : ℕ → Panel → Lines → ℕ → ℕ → ℕ → ℕ
-responseAfter n p l k w r =
-    pick (l .search) (marked (p .target) (matches n p w r) r)
+responseAfter n p l k w r = pick (l .search) (marked (p .target) (matches n p w r) r)
     (pick (l .complement && selected (p .key) (p .care) r) (flipped (p .target) r) r)
 
 -- "A pulse also answers the count: matching words if search is raised, else selected words."
@@ -70,7 +67,5 @@ readOf m p l = pick (l .read) (getD (m .words) (p .address .0) 0) 0
 
 -- the machine after a pulse that is not turned down
 unfoldable pub pulsed : Machine → Panel → Lines → Machine
-pulsed m p l =
-    machine (m .width)
-    (zip (wordAfter (m .width) p l) 0 (m .words) (m .responses))
+pulsed m p l = machine (m .width) (zip (wordAfter (m .width) p l) 0 (m .words) (m .responses))
     (zip (responseAfter (m .width) p l) 0 (m .words) (m .responses))

@@ -79,8 +79,7 @@ passes (check.Refused r) = false
 
 -- "resolution for 1 to 3", and every other call first
 unfoldable pub machineCheck : Machine → Check
-machineCheck m =
-    refuse Size (badSize (length (m .words)) (length (m .responses)))
+machineCheck m = refuse Size (badSize (length (m .words)) (length (m .responses)))
     else refuse Width (badWidth (m .width))
     else refuseWord (lowest (tooWide (m .width)) 0 (m .words))
 
@@ -90,8 +89,7 @@ commandCheck n p l = refuse WrongLines (badLines l) else refuse NoSuchWord (badA
 
 -- "A pulse is checked for 1 to 7"
 unfoldable pub pulseCheck : Machine → Panel → Lines → Check
-pulseCheck m p l =
-    machineCheck m
+pulseCheck m p l = machineCheck m
     else refuse PanelTooWide (badPanel (m .width) p)
     else refuse TwoCodes (badCodes (m .width) p l)
     else commandCheck (length (m .words)) p l

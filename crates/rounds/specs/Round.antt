@@ -3,7 +3,7 @@ use mathlib.Core.Path.{_≡_}
 use Prim.Native.Nat.{ℕ, _<_}
 use mathlib.Core.Bool.{Bool, true, not}
 use lib.Dec.{eqb}
-use lib.ListN.{getD, set}
+use lib.ListN.{set}
 use Rattle.laws.specs.Bits.{bit, number, pick}
 use Rattle.machine.specs.declared.WordSlice.{WordSlice}
 use Rattle.machine.specs.declared.ResponseBit.{ResponseBit}
@@ -11,7 +11,7 @@ use Rattle.machine.specs.declared.Found.{Found}
 use Rattle.machine.specs.declared.Found.the-variants.{At, Nothing}
 use Rattle.machine.specs.declared.Refusal.the-variants.{NotShown}
 use Rattle.machine.specs.declared.Check.{Check}
-use Rattle.machine.specs.Machine.{Machine, machine, responseBits}
+use Rattle.machine.specs.Machine.{Machine, machine, responseBits, response}
 use Rattle.machine.specs.Resolution.{lowest}
 use Rattle.machine.specs.Refusals.{machineCheck, bitCheck, apartCheck, _else_, refuse, answerBy, changeBy, tells}
 use Rattle.resolver.specs.declared.Resolved.{Resolved}
@@ -45,8 +45,7 @@ answered x f Faulty r = put f 1 (put x 0 r)
 
 -- that one word's response, and nothing else
 abbrev pub answeredAt : ResponseBit → ResponseBit → WordSlice → Verdict → Machine → Machine
-answeredAt x f k v m =
-    machine (m .width) (m .words) (set (m .responses) (k .0) (answered x f v (getD (m .responses) (k .0) 0)))
+answeredAt x f k v m = machine (m .width) (m .words) (set (m .responses) (k .0) (answered x f v (response m (k .0))))
 
 -- ---- "show for 1 to 3 and 8; an answer for those and 11"; "show judges X, an answer X and F"
 
