@@ -12,9 +12,11 @@ use Rattle.array.specs.declared.Check.the-variants as check
 use Rattle.array.specs.declared.Answer.{Answer}
 use Rattle.array.specs.declared.Answer.the-variants.{Done, Refused}
 use Rattle.array.specs.Operations.{Array}
-use Rattle.array.specs.Refusals.{callCheck, numberOf, answerOf, after}
+use Rattle.array.specs.Refusals.{callCheck, answerOf, after, Told, told}
 use Rattle.array_lines.specs.declared.Asked.{Asked}
 use Rattle.array_lines.specs.declared.Asked.the-variants.{Is, Bad}
+use Rattle.array_entries.specs.declared.Order.{Order}
+use Rattle.array_entries.specs.declared.Order.the-variants.{Does, Turned}
 use Rattle.array_lines.specs.Choices.{sourceAt, maskAt, wantedAt, latchesAt, combineAt, selectorAt, formAt, sinkAt, kindAt}
 
 -- ---- a code (house, docs/DECISIONS.md 'How does a caller in another language name an operation?'): digits to the base 4, the lowest 0 for search,
@@ -72,41 +74,59 @@ operationOf code =
 abbrev pub registersOf : List ℕ → Registers
 registersOf held = record { r1 = getD held 0 0; r2 = getD held 1 0; m = getD held 2 0 }
 
--- ---- an answer: the count, or 2^32 times the number of a refusal; 1 for a buffer of registers that is not of three
+-- ---- what an entry is asked for by its code and by the room of the answer's buffer
 
-abbrev pub resultOf : Answer → ℕ
-resultOf (Done r count) = count
-resultOf (Refused why) = numberOf why * 4294967296
+-- how many numbers an answer has
+abbrev pub answerSize : ℕ
+answerSize = 6
 
-abbrev pub registersTold : Answer → List ℕ → List ℕ
-registersTold (Done r count) held = r .r1 ∷ r .r2 ∷ r .m ∷ []
-registersTold (Refused why) held = held
+-- a code that names no operation is 6, and a buffer without room for the answer 10
+abbrev pub orderOf : Asked → ℕ → Order
+orderOf Bad room = Turned 6
+orderOf (Is o) room = pick (ltb room answerSize) (Turned 10) (Does o)
 
--- where a code names no operation: 6, after all that the array and its registers are turned down for (house)
-abbrev pub unnamed : Check → ℕ
-unnamed check.Passed = 6 * 4294967296
-unnamed (check.Refused why) = numberOf why * 4294967296
+-- ---- what it is told: in this order 1 for a buffer of registers that is not of three, the numbers of the operation itself, 6 and 10 (house)
 
-abbrev pub resultBy : Array → Registers → Asked → ℕ
-resultBy a r (Is o) = resultOf (answerOf a r o)
-resultBy a r Bad = unnamed (callCheck a r)
+-- a refusal that also answers nothing
+abbrev pub refused : ℕ → Told
+refused number = record { refusal = number; also = 0; registers = record { r1 = 0; r2 = 0; m = 0 }; count = 0 }
 
-abbrev pub leftBy : Array → Registers → Asked → Array
-leftBy a r (Is o) = after a r o
-leftBy a r Bad = a
+abbrev pub turned : Check → ℕ → Told
+turned check.Passed number = refused number
+turned (check.Refused why) number = told (Refused why)
 
-abbrev pub registersBy : Array → Registers → Asked → List ℕ → List ℕ
-registersBy a r (Is o) held = registersTold (answerOf a r o) held
-registersBy a r Bad held = held
+abbrev pub toldBy : Array → Registers → Order → Told
+toldBy a r (Does o) = told (answerOf a r o)
+toldBy a r (Turned number) = turned (callCheck a r) number
 
 abbrev pub isThree : List ℕ → Bool
 isThree held = eqb (length held) 3
 
-unfoldable pub result : Array → List ℕ → ℕ → ℕ
-result a held code = pick (isThree held) (resultBy a (registersOf held) (operationOf code)) 4294967296
+unfoldable pub entryTold : Array → List ℕ → ℕ → ℕ → Told
+entryTold a held code room =
+    pick (isThree held) (toldBy a (registersOf held) (orderOf (operationOf code) room)) (refused 1)
 
-unfoldable pub left : Array → List ℕ → ℕ → Array
-left a held code = pick (isThree held) (leftBy a (registersOf held) (operationOf code)) a
+-- the answer's numbers, in the order of `told`
+abbrev pub numbersOf : Told → List ℕ
+numbersOf t = t .refusal ∷ t .also ∷ t .registers .r1 ∷ t .registers .r2 ∷ t .registers .m ∷ t .count ∷ []
 
-unfoldable pub registersLeft : Array → List ℕ → ℕ → List ℕ
-registersLeft a held code = pick (isThree held) (registersBy a (registersOf held) (operationOf code) held) held
+-- ---- what is left: nothing lent changes on a refusal
+
+abbrev pub leftBy : Array → Registers → Order → Array
+leftBy a r (Does o) = after a r o
+leftBy a r (Turned number) = a
+
+unfoldable pub left : Array → List ℕ → ℕ → ℕ → Array
+left a held code room = pick (isThree held) (leftBy a (registersOf held) (orderOf (operationOf code) room)) a
+
+-- the registers after an accepted operation
+abbrev pub loaded : Answer → List ℕ → List ℕ
+loaded (Done r count) held = r .r1 ∷ r .r2 ∷ r .m ∷ []
+loaded (Refused why) held = held
+
+abbrev pub registersBy : Array → Registers → Order → List ℕ → List ℕ
+registersBy a r (Does o) held = loaded (answerOf a r o) held
+registersBy a r (Turned number) held = held
+
+unfoldable pub registersLeft : Array → List ℕ → ℕ → ℕ → List ℕ
+registersLeft a held code room = pick (isThree held) (registersBy a (registersOf held) (orderOf (operationOf code) room) held) held

@@ -1,16 +1,21 @@
-// Entry points for programs in other languages: both machines' operations on the array of three-state cells, by numbers and lent buffers.
-// The agreement test and the benchmark call them.
+// Entry points for programs in other languages: both machines' operations on the array of three-state cells, by numbers and lent buffers;
+// include/dushvaneth.h tells callers. Document 02, request a.
 use array::Answer;
 use array::Check;
 use array::Operation;
+use array::Refusal;
 use array::Registers;
 use array_lines::Asked;
+use entry_forms::tell;
 ghost use mathlib.Core.Path.{_≡_};
+ghost use mathlib.Core.List.{[], _∷_};
 ghost use Prim.Native.Nat.{_<_};
 ghost use lib.Dec.{ltb, eqb};
 ghost use lib.ListN.{length};
 ghost use Rattle.array.specs.Operations.{array};
-ghost use Rattle.array.specs.Refusals.{callCheck};
+ghost use Rattle.array.specs.declared.Answer.the-variants as answered;
+ghost use Rattle.array.specs.Refusals.{callCheck, alsoAnswers, told};
+ghost use Rattle.entry_forms.specs.Numbers.{tellIn};
 ghost use Rattle.array_entries.specs.Numbers as numbers;
 
 // Digit k of a code, to the base 4: the place of a choice's name.
@@ -126,6 +131,30 @@ fn operation_of(code: u32) -> Asked
     Asked::Bad
 }
 
+// What an entry is asked for by its code and the room for its answer: an operation, or the number that it is turned down with.
+pub enum Order {
+    Does(Operation),
+    Turned(u32),
+}
+
+const ANSWER_SIZE: usize = 6;
+
+fn order_of(code: u32, room: usize) -> Order
+    ensures { λ r. ⌜ r ≡ numbers.orderOf (numbers.operationOf code) room ⌝ }
+{
+    let asked = operation_of(code);
+    match asked {
+        Asked::Is(operation) => {
+            if room < ANSWER_SIZE {
+                Order::Turned(10)
+            } else {
+                Order::Does(operation)
+            }
+        }
+        Asked::Bad => Order::Turned(6),
+    }
+}
+
 fn registers_of(registers: &[u64]) -> Registers
     requires { ⌜ length (now registers) ≡ 3 ⌝ }
     ensures { λ r. ⌜ r ≡ numbers.registersOf (now (registers .entry)) ⌝ }
@@ -137,13 +166,52 @@ fn registers_of(registers: &[u64]) -> Registers
     }
 }
 
-// The answer as a number; the registers after an accepted operation are stored.
-fn settle(answer: Answer, registers: &mut [u64]) -> u64
-    requires { ⌜ length (now registers) ≡ 3 ⌝ }
-    ensures { λ r. ⌜ r ≡ numbers.resultOf answer ⌝ }
-    ensures { λ _. ⌜ now (registers .exit) ≡ numbers.registersTold answer (now (registers .entry)) ⌝ }
+// ---- what a caller is told
+
+fn also_of(why: Refusal) -> u64
+    ensures { λ r. ⌜ r ≡ alsoAnswers why ⌝ }
 {
-    match answer {
+    match why {
+        Refusal::Size => 0,
+        Refusal::Width => 0,
+        Refusal::WordTooWide(word) => word.0 as u64,
+        Refusal::NoCell => 0,
+        Refusal::RegisterTooWide => 0,
+    }
+}
+
+fn tell_refused(answer: &mut [u64], number: u32, also: u64) -> u32
+    ensures { λ r. ⌜ r ≡ number ⌝ }
+    ensures { λ _. ⌜ now (answer .exit) ≡ tellIn (number ∷ also ∷ 0 ∷ 0 ∷ 0 ∷ 0 ∷ []) (now (answer .entry)) ⌝ }
+{
+    let numbers = [number as u64, also, 0, 0, 0, 0];
+    tell(answer, &numbers);
+    number
+}
+
+fn refuse(answer: &mut [u64], why: Refusal) -> u32
+    ensures { λ r. ⌜ r ≡ told (answered.Refused why) .refusal ⌝ }
+    ensures { λ _. ⌜ now (answer .exit) ≡ tellIn (numbers.numbersOf (told (answered.Refused why))) (now (answer .entry)) ⌝ }
+{
+    let number = array::number_of(why) as u32;
+    tell_refused(answer, number, also_of(why))
+}
+
+fn tell_done(answer: &mut [u64], loaded: Registers, count: usize)
+    ensures { λ _. ⌜ now (answer .exit) ≡ tellIn (numbers.numbersOf (told (answered.Done loaded count))) (now (answer .entry)) ⌝ }
+{
+    let numbers = [0, 0, loaded.r1, loaded.r2, loaded.m, count as u64];
+    tell(answer, &numbers);
+}
+
+// The registers after an accepted operation are stored.
+fn settle(answer: &mut [u64], registers: &mut [u64], done: Answer) -> u32
+    requires { ⌜ length (now registers) ≡ 3 ⌝ }
+    ensures { λ r. ⌜ r ≡ told done .refusal ⌝ }
+    ensures { λ _. ⌜ now (answer .exit) ≡ tellIn (numbers.numbersOf (told done)) (now (answer .entry)) ⌝ }
+    ensures { λ _. ⌜ now (registers .exit) ≡ numbers.loaded done (now (registers .entry)) ⌝ }
+{
+    match done {
         Answer::Done {
             registers: loaded,
             count,
@@ -151,22 +219,34 @@ fn settle(answer: Answer, registers: &mut [u64]) -> u64
             registers[0] = loaded.r1;
             registers[1] = loaded.r2;
             registers[2] = loaded.m;
-            count as u64
+            tell_done(answer, loaded, count);
+            0
         }
-        Answer::Refused(why) => array::number_of(why) * 4294967296,
+        Answer::Refused(why) => refuse(answer, why),
     }
 }
 
-// A code that names no operation gets 6, but only where nothing before it in the order is wrong with the array.
-fn refuse_code(ones: &[u64], xs: &[u64], selectors: &[u8], width: u32, registers: Registers) -> u64
-    ensures { λ r. ⌜ r ≡ numbers.unnamed (callCheck (array width (now (ones .entry)) (now (xs .entry)) (now (selectors .entry))) registers) ⌝ }
+// What an entry is turned down with by itself counts only where nothing is wrong with the array and its registers.
+fn turn_down(
+    answer: &mut [u64],
+    ones: &[u64],
+    xs: &[u64],
+    selectors: &[u8],
+    width: u32,
+    held: Registers,
+    number: u32,
+) -> u32
+    ensures { λ r. ⌜ r ≡ numbers.turned (callCheck (array width (now (ones .entry)) (now (xs .entry)) (now (selectors .entry))) held) number .refusal ⌝ }
+    ensures { λ _. ⌜ now (answer .exit) ≡ tellIn (numbers.numbersOf (numbers.turned (callCheck (array width (now (ones .entry)) (now (xs .entry)) (now (selectors .entry))) held) number)) (now (answer .entry)) ⌝ }
 {
-    let checked = array::check_call(ones, xs, selectors, width, registers);
+    let checked = array::check_call(ones, xs, selectors, width, held);
     match checked {
-        Check::Passed => 6 * 4294967296,
-        Check::Refused(why) => array::number_of(why) * 4294967296,
+        Check::Passed => tell_refused(answer, number, 0),
+        Check::Refused(why) => refuse(answer, why),
     }
 }
+
+// ---- the entries
 
 #[no_mangle]
 pub extern "C" fn dushvaneth_array_wide(
@@ -176,23 +256,27 @@ pub extern "C" fn dushvaneth_array_wide(
     registers: &mut [u64],
     width: u32,
     code: u32,
-) -> u64
-    ensures { λ r. ⌜ r ≡ numbers.result (array width (now (ones .entry)) (now (xs .entry)) (now (selectors .entry))) (now (registers .entry)) code ⌝ }
-    ensures { λ _. ⌜ now (ones .exit) ≡ numbers.left (array width (now (ones .entry)) (now (xs .entry)) (now (selectors .entry))) (now (registers .entry)) code .ones ⌝ }
-    ensures { λ _. ⌜ now (xs .exit) ≡ numbers.left (array width (now (ones .entry)) (now (xs .entry)) (now (selectors .entry))) (now (registers .entry)) code .xs ⌝ }
-    ensures { λ _. ⌜ now (selectors .exit) ≡ numbers.left (array width (now (ones .entry)) (now (xs .entry)) (now (selectors .entry))) (now (registers .entry)) code .selectors ⌝ }
-    ensures { λ _. ⌜ now (registers .exit) ≡ numbers.registersLeft (array width (now (ones .entry)) (now (xs .entry)) (now (selectors .entry))) (now (registers .entry)) code ⌝ }
+    answer: &mut [u64],
+) -> u32
+    ensures { λ r. ⌜ r ≡ numbers.entryTold (array width (now (ones .entry)) (now (xs .entry)) (now (selectors .entry))) (now (registers .entry)) code (length (now (answer .entry))) .refusal ⌝ }
+    ensures { λ _. ⌜ now (answer .exit) ≡ tellIn (numbers.numbersOf (numbers.entryTold (array width (now (ones .entry)) (now (xs .entry)) (now (selectors .entry))) (now (registers .entry)) code (length (now (answer .entry))))) (now (answer .entry)) ⌝ }
+    ensures { λ _. ⌜ now (ones .exit) ≡ numbers.left (array width (now (ones .entry)) (now (xs .entry)) (now (selectors .entry))) (now (registers .entry)) code (length (now (answer .entry))) .ones ⌝ }
+    ensures { λ _. ⌜ now (xs .exit) ≡ numbers.left (array width (now (ones .entry)) (now (xs .entry)) (now (selectors .entry))) (now (registers .entry)) code (length (now (answer .entry))) .xs ⌝ }
+    ensures { λ _. ⌜ now (selectors .exit) ≡ numbers.left (array width (now (ones .entry)) (now (xs .entry)) (now (selectors .entry))) (now (registers .entry)) code (length (now (answer .entry))) .selectors ⌝ }
+    ensures { λ _. ⌜ now (registers .exit) ≡ numbers.registersLeft (array width (now (ones .entry)) (now (xs .entry)) (now (selectors .entry))) (now (registers .entry)) code (length (now (answer .entry))) ⌝ }
 {
     if registers.len() != 3 {
-        return 4294967296;
+        return tell_refused(answer, 1, 0);
     }
     let held = registers_of(registers);
-    let asked = operation_of(code);
-    let Asked::Is(operation) = asked else {
-        return refuse_code(ones, xs, selectors, width, held);
-    };
-    let answer = array_wide::operate(ones, xs, selectors, width, held, operation);
-    settle(answer, registers)
+    let order = order_of(code, answer.len());
+    match order {
+        Order::Does(operation) => {
+            let done = array_wide::operate(ones, xs, selectors, width, held, operation);
+            settle(answer, registers, done)
+        }
+        Order::Turned(number) => turn_down(answer, ones, xs, selectors, width, held, number),
+    }
 }
 
 #[no_mangle]
@@ -203,21 +287,25 @@ pub extern "C" fn dushvaneth_array_cells(
     registers: &mut [u64],
     width: u32,
     code: u32,
-) -> u64
-    ensures { λ r. ⌜ r ≡ numbers.result (array width (now (ones .entry)) (now (xs .entry)) (now (selectors .entry))) (now (registers .entry)) code ⌝ }
-    ensures { λ _. ⌜ now (ones .exit) ≡ numbers.left (array width (now (ones .entry)) (now (xs .entry)) (now (selectors .entry))) (now (registers .entry)) code .ones ⌝ }
-    ensures { λ _. ⌜ now (xs .exit) ≡ numbers.left (array width (now (ones .entry)) (now (xs .entry)) (now (selectors .entry))) (now (registers .entry)) code .xs ⌝ }
-    ensures { λ _. ⌜ now (selectors .exit) ≡ numbers.left (array width (now (ones .entry)) (now (xs .entry)) (now (selectors .entry))) (now (registers .entry)) code .selectors ⌝ }
-    ensures { λ _. ⌜ now (registers .exit) ≡ numbers.registersLeft (array width (now (ones .entry)) (now (xs .entry)) (now (selectors .entry))) (now (registers .entry)) code ⌝ }
+    answer: &mut [u64],
+) -> u32
+    ensures { λ r. ⌜ r ≡ numbers.entryTold (array width (now (ones .entry)) (now (xs .entry)) (now (selectors .entry))) (now (registers .entry)) code (length (now (answer .entry))) .refusal ⌝ }
+    ensures { λ _. ⌜ now (answer .exit) ≡ tellIn (numbers.numbersOf (numbers.entryTold (array width (now (ones .entry)) (now (xs .entry)) (now (selectors .entry))) (now (registers .entry)) code (length (now (answer .entry))))) (now (answer .entry)) ⌝ }
+    ensures { λ _. ⌜ now (ones .exit) ≡ numbers.left (array width (now (ones .entry)) (now (xs .entry)) (now (selectors .entry))) (now (registers .entry)) code (length (now (answer .entry))) .ones ⌝ }
+    ensures { λ _. ⌜ now (xs .exit) ≡ numbers.left (array width (now (ones .entry)) (now (xs .entry)) (now (selectors .entry))) (now (registers .entry)) code (length (now (answer .entry))) .xs ⌝ }
+    ensures { λ _. ⌜ now (selectors .exit) ≡ numbers.left (array width (now (ones .entry)) (now (xs .entry)) (now (selectors .entry))) (now (registers .entry)) code (length (now (answer .entry))) .selectors ⌝ }
+    ensures { λ _. ⌜ now (registers .exit) ≡ numbers.registersLeft (array width (now (ones .entry)) (now (xs .entry)) (now (selectors .entry))) (now (registers .entry)) code (length (now (answer .entry))) ⌝ }
 {
     if registers.len() != 3 {
-        return 4294967296;
+        return tell_refused(answer, 1, 0);
     }
     let held = registers_of(registers);
-    let asked = operation_of(code);
-    let Asked::Is(operation) = asked else {
-        return refuse_code(ones, xs, selectors, width, held);
-    };
-    let answer = array_cells::operate(ones, xs, selectors, width, held, operation);
-    settle(answer, registers)
+    let order = order_of(code, answer.len());
+    match order {
+        Order::Does(operation) => {
+            let done = array_cells::operate(ones, xs, selectors, width, held, operation);
+            settle(answer, registers, done)
+        }
+        Order::Turned(number) => turn_down(answer, ones, xs, selectors, width, held, number),
+    }
 }

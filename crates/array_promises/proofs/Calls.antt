@@ -1,10 +1,11 @@
 -- Demands 1 and 2, said of the array's calls themselves: what each machine's own source promises of an operation (`Post` of the call, of its arguments
 -- a, an answer r and what stands behind the lent references at exit, s) is what the demands speak of.
-use Prim.Native.Nat.{ℕ, _*_}
+use Prim.Native.Nat.{ℕ}
 use mathlib.Core.Path.{_≡_, refl, sym, ap, _∙_}
 use mathlib.Core.Bool.{Bool, true, false, not}
 use mathlib.Core.List.{List, [], _∷_}
 use native.Mathlib.Omega.{arith}
+use lib.Dec.{ltb}
 use lib.ListN.{length}
 use contract.Lifetimes.{Lfts}
 use borrow.Fn.World.{ArgsD, ResD}
@@ -24,10 +25,13 @@ use Rattle.array.specs.declared.Check.the-variants.{Passed, Refused}
 use Rattle.array.specs.declared.Answer.{Answer}
 use Rattle.array.specs.declared.Answer.the-variants as answer
 use Rattle.array.specs.Operations.{Array, array, wordsOf, registersAfter, countOf, operated}
-use Rattle.array.specs.Refusals.{badSizes, firstTooWide, badCells, badRegisters, _else_, refuse, refuseWord, callCheck, answerBy, answerOf, changeBy, after, tells}
+use Rattle.array.specs.Refusals.{badSizes, firstTooWide, badCells, badRegisters, _else_, refuse, refuseWord, callCheck, answerBy, answerOf, changeBy, after, tells, Told, told}
 use Rattle.array_lines.specs.declared.Asked.{Asked}
 use Rattle.array_lines.specs.declared.Asked.the-variants.{Is, Bad}
-use Rattle.array_entries.specs.Numbers.{operationOf, registersOf, resultOf, registersTold, unnamed, resultBy, leftBy, registersBy, isThree, result, left, registersLeft}
+use Rattle.entry_forms.specs.Numbers.{tellIn}
+use Rattle.array_entries.specs.declared.Order.{Order}
+use Rattle.array_entries.specs.declared.Order.the-variants.{Does, Turned}
+use Rattle.array_entries.specs.Numbers.{operationOf, registersOf, answerSize, orderOf, refused, turned, toldBy, isThree, entryTold, numbersOf, leftBy, left, loaded, registersBy, registersLeft}
 use Rattle.promises.proofs.Demand1.{Entry, first, stray}
 use Rattle.promises.proofs.Calls.{Leaves}
 use Rattle.array_promises.proofs.Demand1.{operateTable, tellsAnswer, operate-tells, operate-accepted, operate-unchanged}
@@ -107,9 +111,9 @@ listed g = g .r1 ∷ g .r2 ∷ g .m ∷ []
 abbrev entry : ℕ → Bool → Entry
 entry k b = record { number = k; also = 0; holds = b }
 
--- (house): 1 too for a buffer of registers that is not of three, and 6 for a code that names no operation
-abbrev pub entryTable : Array → List ℕ → ℕ → List Entry
-entryTable b held code =
+-- (house): 1 too for a buffer of registers that is not of three, 6 for a code that names no operation, and 10 for an answer's buffer without room
+abbrev pub entryTable : Array → List ℕ → ℕ → ℕ → List Entry
+entryTable b held code room =
     entry 1 (not (isThree held))
     ∷ entry 1 (badSizes (length (b .ones)) (length (b .xs)) (length (b .selectors)))
     ∷ entry 2 (badWidth (b .width))
@@ -117,41 +121,48 @@ entryTable b held code =
     ∷ entry 12 (badCells (b .width) (wordsOf b))
     ∷ entry 4 (badRegisters (b .width) (registersOf held))
     ∷ entry 6 (isBad (operationOf code))
+    ∷ entry 10 (ltb room answerSize)
     ∷ []
 
--- the count, or 2^32 times the number of a refusal; the array n and the registers k afterwards
-pub record Entered (b : Array) (held : List ℕ) (code r : ℕ) (n : Array) (k : List ℕ) : Type 0 where
-  pub accepted : first (entryTable b held code) .0 ≡ 0 → (o : Operation) → operationOf code ≡ Is o
-      → (r ≡ countOf b (registersOf held) o) × (n ≡ after b (registersOf held) o)
-      × (k ≡ listed (registersAfter (b .width) (registersOf held) o (wordsOf b)))
-  pub refused : (first (entryTable b held code) .0 ≡ 0 → ⊥) → (r ≡ first (entryTable b held code) .0 * 4294967296) × (n ≡ b) × (k ≡ held)
+-- the number returned r; the array n, the registers k and the answer's buffer d afterwards, where it was `answer`
+pub record Entered (b : Array) (held : List ℕ) (code : ℕ) (answer : List ℕ) (r : ℕ) (n : Array) (k d : List ℕ) : Type 0 where
+  pub accepted : first (entryTable b held code (length answer)) .0 ≡ 0 → (o : Operation) → operationOf code ≡ Is o
+      → let new = registersAfter (b .width) (registersOf held) o (wordsOf b) in
+      (r ≡ 0) × (n ≡ after b (registersOf held) o) × (k ≡ listed new)
+      × (d ≡ tellIn (0 ∷ 0 ∷ new .r1 ∷ new .r2 ∷ new .m ∷ countOf b (registersOf held) o ∷ []) answer)
+  pub refused : (first (entryTable b held code (length answer)) .0 ≡ 0 → ⊥)
+      → let why = first (entryTable b held code (length answer)) in
+      (r ≡ why .0) × (n ≡ b) × (k ≡ held) × (d ≡ tellIn (why .0 ∷ why .1 ∷ 0 ∷ 0 ∷ 0 ∷ 0 ∷ []) answer)
 
--- what the table gives, of the three that an entry point looks at in turn
-abbrev gives : Bool → Check → Bool → ℕ × ℕ
-gives false c bad = (1, 0)
-gives true Passed true = (6, 0)
-gives true Passed false = (0, 0)
-gives true (Refused why) bad = tells why
+-- what the table gives, of the four that an entry point looks at in turn
+abbrev gives : Bool → Check → Bool → Bool → ℕ × ℕ
+gives false c bad low = (1, 0)
+gives true (Refused why) bad low = tells why
+gives true Passed true low = (6, 0)
+gives true Passed false true = (10, 0)
+gives true Passed false false = (0, 0)
 
-in-order : (t b₁ b₂ : Bool) (f : Found) (b₁₂ b₄ bad : Bool)
-    → gives t (refuse Size b₁ else refuse Width b₂ else refuseWord f else refuse NoCell b₁₂ else refuse RegisterTooWide b₄) bad
-    ≡ first (entry 1 (not t) ∷ entry 1 b₁ ∷ entry 2 b₂ ∷ stray f ∷ entry 12 b₁₂ ∷ entry 4 b₄ ∷ entry 6 bad ∷ [])
+in-order : (t b₁ b₂ : Bool) (f : Found) (b₁₂ b₄ bad low : Bool)
+    → gives t (refuse Size b₁ else refuse Width b₂ else refuseWord f else refuse NoCell b₁₂ else refuse RegisterTooWide b₄) bad low
+    ≡ first (entry 1 (not t) ∷ entry 1 b₁ ∷ entry 2 b₂ ∷ stray f ∷ entry 12 b₁₂ ∷ entry 4 b₄ ∷ entry 6 bad ∷ entry 10 low ∷ [])
 unfolding first
-in-order false b₁ b₂ f b₁₂ b₄ bad = refl
-in-order true true b₂ f b₁₂ b₄ bad = refl
-in-order true false true f b₁₂ b₄ bad = refl
-in-order true false false (At k) b₁₂ b₄ bad = refl
-in-order true false false Nothing true b₄ bad = refl
-in-order true false false Nothing false true bad = refl
-in-order true false false Nothing false false true = refl
-in-order true false false Nothing false false false = refl
+in-order false b₁ b₂ f b₁₂ b₄ bad low = refl
+in-order true true b₂ f b₁₂ b₄ bad low = refl
+in-order true false true f b₁₂ b₄ bad low = refl
+in-order true false false (At k) b₁₂ b₄ bad low = refl
+in-order true false false Nothing true b₄ bad low = refl
+in-order true false false Nothing false true bad low = refl
+in-order true false false Nothing false false true low = refl
+in-order true false false Nothing false false false true = refl
+in-order true false false Nothing false false false false = refl
 
-entry-given : (b : Array) (held : List ℕ) (code : ℕ)
-    → gives (isThree held) (callCheck b (registersOf held)) (isBad (operationOf code)) ≡ first (entryTable b held code)
+entry-given : (b : Array) (held : List ℕ) (code room : ℕ)
+    → gives (isThree held) (callCheck b (registersOf held)) (isBad (operationOf code)) (ltb room answerSize) ≡ first (entryTable b held code room)
 unfolding callCheck
-entry-given b held code =
-    in-order (isThree held) (badSizes (length (b .ones)) (length (b .xs)) (length (b .selectors))) (badWidth (b .width)) (firstTooWide (b .width) (wordsOf b))
-    (badCells (b .width) (wordsOf b)) (badRegisters (b .width) (registersOf held)) (isBad (operationOf code))
+entry-given b held code room =
+    in-order (isThree held) (badSizes (length (b .ones)) (length (b .xs)) (length (b .selectors))) (badWidth (b .width))
+    (firstTooWide (b .width) (wordsOf b)) (badCells (b .width) (wordsOf b)) (badRegisters (b .width) (registersOf held))
+    (isBad (operationOf code)) (ltb room answerSize)
 
 no-zero : (why : Refusal) → tells why .0 ≡ 0 → ⊥
 no-zero Size e = omega (arith, e)
@@ -160,86 +171,136 @@ no-zero (WordTooWide k) e = omega (arith, e)
 no-zero NoCell e = omega (arith, e)
 no-zero RegisterTooWide e = omega (arith, e)
 
+-- a refusal's numbers
+abbrev zeros : ℕ × ℕ → Told
+zeros p = record { refusal = p .0; also = p .1; registers = record { r1 = 0; r2 = 0; m = 0 }; count = 0 }
+
 module _ (b : Array) (held : List ℕ) where
   abbrev g : Registers
   g = registersOf held
 
-  turned : (q : Asked) (t : Bool) → (gives t (callCheck b g) (isBad q) .0 ≡ 0 → ⊥)
-      → (pick t (resultBy b g q) 4294967296 ≡ gives t (callCheck b g) (isBad q) .0 * 4294967296) × (pick t (leftBy b g q) b ≡ b)
-      × (pick t (registersBy b g q held) held ≡ held)
-  unfolding answerOf after
-  turned q false z = (omega arith, refl, refl)
-  turned (Is o) true z = go (callCheck b g) z
-    where
-      done : Answer
-      done = answer.Done (registersAfter (b .width) g o (wordsOf b)) (countOf b g o)
+  -- what is told and left, by what is asked for and whether the registers are three
+  abbrev tells-by : Bool → Order → Told
+  tells-by t q = pick t (toldBy b g q) (refused 1)
 
-      go : (c : Check) → (gives true c false .0 ≡ 0 → ⊥)
-          → (resultOf (answerBy c done) ≡ gives true c false .0 * 4294967296) × (changeBy c (operated b g o) b ≡ b) × (registersTold (answerBy c done) held ≡ held)
-      go Passed y = absurd (y refl)
-      go (Refused why) y = (refl, refl, refl)
-  turned Bad true z = go (callCheck b g)
+  abbrev leaves-by : Bool → Order → Array
+  leaves-by t q = pick t (leftBy b g q) b
+
+  abbrev holds-by : Bool → Order → List ℕ
+  holds-by t q = pick t (registersBy b g q held) held
+
+  abbrev Kept : Bool → Order → ℕ × ℕ → Type 0
+  Kept t q p = (tells-by t q ≡ zeros p) × (leaves-by t q ≡ b) × (holds-by t q ≡ held)
+
+  own-number : (k : ℕ) (bad low : Bool) → gives true Passed bad low ≡ (k, 0) → Kept true (Turned k) (gives true (callCheck b g) bad low)
+  own-number k bad low e = go (callCheck b g)
     where
-      go : (c : Check) → (unnamed c ≡ gives true c true .0 * 4294967296) × (b ≡ b) × (held ≡ held)
-      go Passed = (refl, refl, refl)
+      go : (c : Check) → (turned c k ≡ zeros (gives true c bad low)) × (b ≡ b) × (held ≡ held)
+      go Passed = (ap zeros (sym e), refl, refl)
       go (Refused why) = (refl, refl, refl)
 
-  taken : (o : Operation) (t : Bool) → gives t (callCheck b g) false .0 ≡ 0
-      → (pick t (resultBy b g (Is o)) 4294967296 ≡ countOf b g o) × (pick t (leftBy b g (Is o)) b ≡ after b g o)
-      × (pick t (registersBy b g (Is o) held) held ≡ listed (registersAfter (b .width) g o (wordsOf b)))
-  unfolding answerOf
-  taken o false z = absurd (omega (arith, z))
-  taken o true z = go (callCheck b g) z
+  named : (o : Operation) (low : Bool) → (gives true (callCheck b g) false low .0 ≡ 0 → ⊥)
+      → Kept true (pick low (Turned 10) (Does o)) (gives true (callCheck b g) false low)
+  unfolding answerOf after
+  named o true z = own-number 10 false true refl
+  named o false z = go (callCheck b g) z
     where
       done : Answer
       done = answer.Done (registersAfter (b .width) g o (wordsOf b)) (countOf b g o)
 
-      go : (c : Check) → gives true c false .0 ≡ 0
-          → (resultOf (answerBy c done) ≡ countOf b g o) × (after b g o ≡ after b g o)
-          × (registersTold (answerBy c done) held ≡ listed (registersAfter (b .width) g o (wordsOf b)))
+      go : (c : Check) → (gives true c false false .0 ≡ 0 → ⊥)
+          → (told (answerBy c done) ≡ zeros (gives true c false false)) × (changeBy c (operated b g o) b ≡ b) × (loaded (answerBy c done) held ≡ held)
+      go Passed y = absurd (y refl)
+      go (Refused why) y = (refl, refl, refl)
+
+  turned-down : (q : Asked) (room : ℕ) (t : Bool) → (gives t (callCheck b g) (isBad q) (ltb room answerSize) .0 ≡ 0 → ⊥)
+      → Kept t (orderOf q room) (gives t (callCheck b g) (isBad q) (ltb room answerSize))
+  turned-down q room false z = (refl, refl, refl)
+  turned-down Bad room true z = own-number 6 true (ltb room answerSize) refl
+  turned-down (Is o) room true z = named o (ltb room answerSize) z
+
+  taken : (o : Operation) (t low : Bool) → gives t (callCheck b g) false low .0 ≡ 0
+      → let new = registersAfter (b .width) g o (wordsOf b) in
+      let q = pick low (Turned 10) (Does o) in
+      (tells-by t q ≡ record { refusal = 0; also = 0; registers = new; count = countOf b g o })
+      × (leaves-by t q ≡ after b g o) × (holds-by t q ≡ listed new)
+  unfolding answerOf
+  taken o false low z = absurd (omega (arith, z))
+  taken o true true z = absurd (go (callCheck b g) z)
+    where
+      go : (c : Check) → gives true c false true .0 ≡ 0 → ⊥
+      go Passed y = omega (arith, y)
+      go (Refused why) y = no-zero why y
+  taken o true false z = go (callCheck b g) z
+    where
+      new : Registers
+      new = registersAfter (b .width) g o (wordsOf b)
+
+      go : (c : Check) → gives true c false false .0 ≡ 0
+          → (told (answerBy c (answer.Done new (countOf b g o))) ≡ record { refusal = 0; also = 0; registers = new; count = countOf b g o })
+          × (after b g o ≡ after b g o) × (loaded (answerBy c (answer.Done new (countOf b g o))) held ≡ listed new)
       go Passed y = (refl, refl, refl)
       go (Refused why) y = absurd (no-zero why y)
 
-an-entry : (b : Array) (held : List ℕ) (code r : ℕ) (os xs ss k : List ℕ) → r ≡ result b held code → os ≡ left b held code .ones → xs ≡ left b held code .xs
-    → ss ≡ left b held code .selectors → k ≡ registersLeft b held code → Entered b held code r (array (b .width) os xs ss) k
-unfolding result left registersLeft
-an-entry b held code r os xs ss k e e₁ e₂ e₃ e₄ =
-    let t = entry-given b held code in
-    let n : array (b .width) os xs ss ≡ pick (isThree held) (leftBy b (registersOf held) (operationOf code)) b =
-    whole (b .width) os xs ss _ (wide-as (isThree held) (operationOf code)) e₁ e₂ e₃ in
+an-entry : (b : Array) (held : List ℕ) (code : ℕ) (answer : List ℕ) (r : ℕ) (d os xs ss k : List ℕ)
+    → r ≡ entryTold b held code (length answer) .refusal
+    → d ≡ tellIn (numbersOf (entryTold b held code (length answer))) answer → os ≡ left b held code (length answer) .ones
+    → xs ≡ left b held code (length answer) .xs → ss ≡ left b held code (length answer) .selectors → k ≡ registersLeft b held code (length answer)
+    → Entered b held code answer r (array (b .width) os xs ss) k d
+unfolding entryTold left registersLeft
+an-entry b held code answer r d os xs ss k e e₀ e₁ e₂ e₃ e₄ =
+    let t = isThree held in
+    let room = length answer in
+    let low = ltb room answerSize in
+    let f = entry-given b held code room in
+    let n : array (b .width) os xs ss ≡ leaves-by b held t (orderOf (operationOf code) room) =
+    whole (b .width) os xs ss _ (wide-as t (orderOf (operationOf code) room)) e₁ e₂ e₃ in
     record {
       accepted = λ z o q.
-          let p = taken b held o (isThree held) (ap (λ (a : Asked). gives (isThree held) (callCheck b (registersOf held)) (isBad a) .0) (sym q) ∙ ap (λ (x : ℕ × ℕ). x .0) t ∙ z) in (
-            e ∙ ap (λ (a : Asked). pick (isThree held) (resultBy b (registersOf held) a) 4294967296) q ∙ p .0,
-            n ∙ ap (λ (a : Asked). pick (isThree held) (leftBy b (registersOf held) a) b) q ∙ p .1,
-            e₄ ∙ ap (λ (a : Asked). pick (isThree held) (registersBy b (registersOf held) a held) held) q ∙ p .2,
+          let p =
+          taken b held o t low
+          (ap (λ (a : Asked). gives t (callCheck b (registersOf held)) (isBad a) low .0) (sym q) ∙ ap (λ (x : ℕ × ℕ). x .0) f ∙ z) in
+          let w : tells-by b held t (orderOf (operationOf code) room) ≡ _ = ap (λ (a : Asked). tells-by b held t (orderOf a room)) q ∙ p .0 in (
+            e ∙ ap (λ (x : Told). x .refusal) w,
+            n ∙ ap (λ (a : Asked). leaves-by b held t (orderOf a room)) q ∙ p .1,
+            e₄ ∙ ap (λ (a : Asked). holds-by b held t (orderOf a room)) q ∙ p .2,
+            e₀ ∙ ap (λ (x : Told). tellIn (numbersOf x) answer) w,
           );
       refused = λ z.
-          let p = turned b held (operationOf code) (isThree held) (λ y. z (sym (ap (λ (x : ℕ × ℕ). x .0) t) ∙ y)) in
-          (e ∙ p .0 ∙ ap (λ (x : ℕ × ℕ). x .0 * 4294967296) t, n ∙ p .1, e₄ ∙ p .2);
+          let p = turned-down b held (operationOf code) room t (λ y. z (sym (ap (λ (x : ℕ × ℕ). x .0) f) ∙ y)) in
+          let w = p .0 ∙ ap zeros f in
+          (e ∙ ap (λ (x : Told). x .refusal) w, n ∙ p .1, e₄ ∙ p .2, e₀ ∙ ap (λ (x : Told). tellIn (numbersOf x) answer) w);
     }
   where
-    wide-as : (t : Bool) (q : Asked) → pick t (leftBy b (registersOf held) q) b .width ≡ b .width
+    wide-as : (t : Bool) (q : Order) → leaves-by b held t q .width ≡ b .width
     wide-as false q = refl
-    wide-as true Bad = refl
-    wide-as true (Is o) = same-width b (registersOf held) o
+    wide-as true (Turned number) = refl
+    wide-as true (Does o) = same-width b (registersOf held) o
 
-pub plain-entry-meets : (κs : Lfts 4) (a : ArgsD plain-entry.signature κs) (r : ResD plain-entry.signature κs) (s : AtExit (endedOf 4 plain-entry-kinds.ps plain-entry-kinds.r) κs)
+pub plain-entry-meets : (κs : Lfts 5) (a : ArgsD plain-entry.signature κs) (r : ResD plain-entry.signature κs)
+    (s : AtExit (endedOf 5 plain-entry-kinds.ps plain-entry-kinds.r) κs)
     → plain-entry-reads.Post κs a r s
     → let b = array (a .1 .1 .1 .1 .0) (now (a .0)) (now (a .1 .0)) (now (a .1 .1 .0)) in
     let held = now (a .1 .1 .1 .0) in
     let code = a .1 .1 .1 .1 .1 .0 in
-    Entered b held code r (array (b .width) (now (s .0)) (now (s .1 .0)) (now (s .1 .1 .0))) (now (s .1 .1 .1 .0))
+    let answer = now (a .1 .1 .1 .1 .1 .1 .0) in
+    Entered b held code answer r (array (b .width) (now (s .0)) (now (s .1 .0)) (now (s .1 .1 .0))) (now (s .1 .1 .1 .0))
+    (now (s .1 .1 .1 .1 .1 .1 .0))
 plain-entry-meets κs a r s h =
-    an-entry (array (a .1 .1 .1 .1 .0) (now (a .0)) (now (a .1 .0)) (now (a .1 .1 .0))) (now (a .1 .1 .1 .0)) (a .1 .1 .1 .1 .1 .0) r (now (s .0)) (now (s .1 .0)) (now (s .1 .1 .0))
-    (now (s .1 .1 .1 .0)) (h .0) (h .1 .0) (h .1 .1 .0) (h .1 .1 .1 .0) (h .1 .1 .1 .1)
+    an-entry (array (a .1 .1 .1 .1 .0) (now (a .0)) (now (a .1 .0)) (now (a .1 .1 .0))) (now (a .1 .1 .1 .0)) (a .1 .1 .1 .1 .1 .0)
+    (now (a .1 .1 .1 .1 .1 .1 .0)) r (now (s .1 .1 .1 .1 .1 .1 .0)) (now (s .0)) (now (s .1 .0)) (now (s .1 .1 .0)) (now (s .1 .1 .1 .0))
+    (h .0) (h .1 .0) (h .1 .1 .0) (h .1 .1 .1 .0) (h .1 .1 .1 .1 .0) (h .1 .1 .1 .1 .1)
 
-pub wide-entry-meets : (κs : Lfts 4) (a : ArgsD wide-entry.signature κs) (r : ResD wide-entry.signature κs) (s : AtExit (endedOf 4 wide-entry-kinds.ps wide-entry-kinds.r) κs)
+pub wide-entry-meets : (κs : Lfts 5) (a : ArgsD wide-entry.signature κs) (r : ResD wide-entry.signature κs)
+    (s : AtExit (endedOf 5 wide-entry-kinds.ps wide-entry-kinds.r) κs)
     → wide-entry-reads.Post κs a r s
     → let b = array (a .1 .1 .1 .1 .0) (now (a .0)) (now (a .1 .0)) (now (a .1 .1 .0)) in
     let held = now (a .1 .1 .1 .0) in
     let code = a .1 .1 .1 .1 .1 .0 in
-    Entered b held code r (array (b .width) (now (s .0)) (now (s .1 .0)) (now (s .1 .1 .0))) (now (s .1 .1 .1 .0))
+    let answer = now (a .1 .1 .1 .1 .1 .1 .0) in
+    Entered b held code answer r (array (b .width) (now (s .0)) (now (s .1 .0)) (now (s .1 .1 .0))) (now (s .1 .1 .1 .0))
+    (now (s .1 .1 .1 .1 .1 .1 .0))
 wide-entry-meets κs a r s h =
-    an-entry (array (a .1 .1 .1 .1 .0) (now (a .0)) (now (a .1 .0)) (now (a .1 .1 .0))) (now (a .1 .1 .1 .0)) (a .1 .1 .1 .1 .1 .0) r (now (s .0)) (now (s .1 .0)) (now (s .1 .1 .0))
-    (now (s .1 .1 .1 .0)) (h .0) (h .1 .0) (h .1 .1 .0) (h .1 .1 .1 .0) (h .1 .1 .1 .1)
+    an-entry (array (a .1 .1 .1 .1 .0) (now (a .0)) (now (a .1 .0)) (now (a .1 .1 .0))) (now (a .1 .1 .1 .0)) (a .1 .1 .1 .1 .1 .0)
+    (now (a .1 .1 .1 .1 .1 .1 .0)) r (now (s .1 .1 .1 .1 .1 .1 .0)) (now (s .0)) (now (s .1 .0)) (now (s .1 .1 .0)) (now (s .1 .1 .1 .0))
+    (h .0) (h .1 .0) (h .1 .1 .0) (h .1 .1 .1 .0) (h .1 .1 .1 .1 .0) (h .1 .1 .1 .1 .1)

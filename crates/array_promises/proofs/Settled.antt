@@ -32,16 +32,32 @@ pub wide-settled : (κs : Lfts 3) (a : ArgsD wide.signature κs) (r r′ : ResD 
 wide-settled κs a r r′ s s′ h g =
     (h .0 ∙ sym (g .0), h .1 .0 ∙ sym (g .1 .0), h .1 .1 .0 ∙ sym (g .1 .1 .0), h .1 .1 .1 ∙ sym (g .1 .1 .1))
 
--- ---- the entry points for other languages, which are lent the registers too
+-- ---- the entry points for other languages, which are lent the registers too, and a buffer for the answer
 
-pub plain-entry-settled : (κs : Lfts 4) (a : ArgsD plain-entry.signature κs) (r r′ : ResD plain-entry.signature κs) (s s′ : AtExit (endedOf 4 plain-entry-kinds.ps plain-entry-kinds.r) κs)
+pub plain-entry-settled : (κs : Lfts 5) (a : ArgsD plain-entry.signature κs) (r r′ : ResD plain-entry.signature κs)
+    (s s′ : AtExit (endedOf 5 plain-entry-kinds.ps plain-entry-kinds.r) κs)
     → plain-entry-reads.Post κs a r s → plain-entry-reads.Post κs a r′ s′
-    → (r ≡ r′) × (now (s .0) ≡ now (s′ .0)) × (now (s .1 .0) ≡ now (s′ .1 .0)) × (now (s .1 .1 .0) ≡ now (s′ .1 .1 .0)) × (now (s .1 .1 .1 .0) ≡ now (s′ .1 .1 .1 .0))
-plain-entry-settled κs a r r′ s s′ h g =
-    (h .0 ∙ sym (g .0), h .1 .0 ∙ sym (g .1 .0), h .1 .1 .0 ∙ sym (g .1 .1 .0), h .1 .1 .1 .0 ∙ sym (g .1 .1 .1 .0), h .1 .1 .1 .1 ∙ sym (g .1 .1 .1 .1))
+    → (r ≡ r′) × (now (s .0) ≡ now (s′ .0)) × (now (s .1 .0) ≡ now (s′ .1 .0)) × (now (s .1 .1 .0) ≡ now (s′ .1 .1 .0))
+    × (now (s .1 .1 .1 .0) ≡ now (s′ .1 .1 .1 .0)) × (now (s .1 .1 .1 .1 .1 .1 .0) ≡ now (s′ .1 .1 .1 .1 .1 .1 .0))
+plain-entry-settled κs a r r′ s s′ h g = (
+  h .0 ∙ sym (g .0),
+  h .1 .1 .0 ∙ sym (g .1 .1 .0),
+  h .1 .1 .1 .0 ∙ sym (g .1 .1 .1 .0),
+  h .1 .1 .1 .1 .0 ∙ sym (g .1 .1 .1 .1 .0),
+  h .1 .1 .1 .1 .1 ∙ sym (g .1 .1 .1 .1 .1),
+  h .1 .0 ∙ sym (g .1 .0),
+)
 
-pub wide-entry-settled : (κs : Lfts 4) (a : ArgsD wide-entry.signature κs) (r r′ : ResD wide-entry.signature κs) (s s′ : AtExit (endedOf 4 wide-entry-kinds.ps wide-entry-kinds.r) κs)
+pub wide-entry-settled : (κs : Lfts 5) (a : ArgsD wide-entry.signature κs) (r r′ : ResD wide-entry.signature κs)
+    (s s′ : AtExit (endedOf 5 wide-entry-kinds.ps wide-entry-kinds.r) κs)
     → wide-entry-reads.Post κs a r s → wide-entry-reads.Post κs a r′ s′
-    → (r ≡ r′) × (now (s .0) ≡ now (s′ .0)) × (now (s .1 .0) ≡ now (s′ .1 .0)) × (now (s .1 .1 .0) ≡ now (s′ .1 .1 .0)) × (now (s .1 .1 .1 .0) ≡ now (s′ .1 .1 .1 .0))
-wide-entry-settled κs a r r′ s s′ h g =
-    (h .0 ∙ sym (g .0), h .1 .0 ∙ sym (g .1 .0), h .1 .1 .0 ∙ sym (g .1 .1 .0), h .1 .1 .1 .0 ∙ sym (g .1 .1 .1 .0), h .1 .1 .1 .1 ∙ sym (g .1 .1 .1 .1))
+    → (r ≡ r′) × (now (s .0) ≡ now (s′ .0)) × (now (s .1 .0) ≡ now (s′ .1 .0)) × (now (s .1 .1 .0) ≡ now (s′ .1 .1 .0))
+    × (now (s .1 .1 .1 .0) ≡ now (s′ .1 .1 .1 .0)) × (now (s .1 .1 .1 .1 .1 .1 .0) ≡ now (s′ .1 .1 .1 .1 .1 .1 .0))
+wide-entry-settled κs a r r′ s s′ h g = (
+  h .0 ∙ sym (g .0),
+  h .1 .1 .0 ∙ sym (g .1 .1 .0),
+  h .1 .1 .1 .0 ∙ sym (g .1 .1 .1 .0),
+  h .1 .1 .1 .1 .0 ∙ sym (g .1 .1 .1 .1 .0),
+  h .1 .1 .1 .1 .1 ∙ sym (g .1 .1 .1 .1 .1),
+  h .1 .0 ∙ sym (g .1 .0),
+)

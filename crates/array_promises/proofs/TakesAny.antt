@@ -17,8 +17,8 @@ plain-takes-any κs a = tt
 pub wide-takes-any : (κs : Lfts 3) (a : ArgsD wide.signature κs) → wide-reads.Pre κs a
 wide-takes-any κs a = tt
 
-pub plain-entry-takes-any : (κs : Lfts 4) (a : ArgsD plain-entry.signature κs) → plain-entry-reads.Pre κs a
+pub plain-entry-takes-any : (κs : Lfts 5) (a : ArgsD plain-entry.signature κs) → plain-entry-reads.Pre κs a
 plain-entry-takes-any κs a = tt
 
-pub wide-entry-takes-any : (κs : Lfts 4) (a : ArgsD wide-entry.signature κs) → wide-entry-reads.Pre κs a
+pub wide-entry-takes-any : (κs : Lfts 5) (a : ArgsD wide-entry.signature κs) → wide-entry-reads.Pre κs a
 wide-entry-takes-any κs a = tt

@@ -127,7 +127,7 @@ fn bad_codes(width: u32, panel: Panel, lines: Lines) -> bool
     lines.search & !search::all_one_code(width, panel)
 }
 
-fn check(words: &[u64], responses: &[Response], width: u32, panel: Panel, lines: Lines) -> Check
+pub fn check(words: &[u64], responses: &[Response], width: u32, panel: Panel, lines: Lines) -> Check
     ensures { λ r. ⌜ r ≡ pulseCheck (machine width (now (words .entry)) (now (responses .entry))) panel lines ⌝ }
 {
     let first = machine::check_machine(words, responses, width);

@@ -18,7 +18,7 @@ ghost use Rattle.image_layout.specs.Sizes.{wordSize, responseSize};
 ghost use Rattle.image_layout.specs.Reading.{numbers};
 ghost use Rattle.image.specs.Calls.{readCheck, readOf, wordsRead, responsesRead};
 
-fn check_read(image: &[u8], words: usize, responses: usize) -> Check
+pub fn check_read(image: &[u8], words: usize, responses: usize) -> Check
     ensures { λ r. ⌜ r ≡ readCheck (now (image .entry)) words responses ⌝ }
 {
     let found = fields::scan_image(image);

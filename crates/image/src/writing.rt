@@ -34,7 +34,13 @@ fn count_jobs(held: Held) -> usize
     }
 }
 
-fn check_write(words: &[u64], responses: &[Response], width: u32, held: Held, room: usize) -> Check
+pub fn check_write(
+    words: &[u64],
+    responses: &[Response],
+    width: u32,
+    held: Held,
+    room: usize,
+) -> Check
     ensures { λ r. ⌜ r ≡ writeCheck (state width (now (words .entry)) (now (responses .entry)) held) room ⌝ }
 {
     let check = machine::check_machine(words, responses, width);

@@ -94,7 +94,7 @@ fn span_at(image: &[u8], at: usize, k: usize) -> Span
 }
 
 // The job that a record says.
-fn job_at(image: &[u8], at: usize) -> Job
+pub fn job_at(image: &[u8], at: usize) -> Job
     requires { ⌜ at + recordSize ≤ length (now image) ⌝ }
     ensures { λ r. ⌜ r ≡ jobOf (take recordSize (drop at (now (image .entry)))) ⌝ }
 {

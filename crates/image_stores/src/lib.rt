@@ -19,7 +19,7 @@ ghost use Rattle.image_layout.specs.Format.{bytes, items, section, jobBytes, he
 ghost use Rattle.image_stores.specs.Stored.{machineBytes};
 
 // k bytes of a number, low byte first.
-fn put(out: &mut [u8], at: usize, k: usize, x: u64) -> usize
+pub fn put(out: &mut [u8], at: usize, k: usize, x: u64) -> usize
     requires { ⌜ at + k ≤ length (now out) ⌝ }
     ensures { λ r. ⌜ (r ≡ at + k) × (now (out .exit) ≡ sets (now (out .entry)) at (bytes k x)) ⌝ }
 {
@@ -90,7 +90,7 @@ pub fn put_machine(out: &mut [u8], words: &[u64], responses: &[Response], width:
 }
 
 // "kind .., key, care, X, Y, lowest bit and width of A, B, P, phase, i, j, then c in 8 bytes, low first"
-fn put_job(out: &mut [u8], at: usize, o: Job) -> usize
+pub fn put_job(out: &mut [u8], at: usize, o: Job) -> usize
     requires { ⌜ at + recordSize ≤ length (now out) ⌝ }
     ensures { λ r. ⌜ (r ≡ at + recordSize) × (now (out .exit) ≡ sets (now (out .entry)) at (jobBytes o)) ⌝ }
 {

@@ -156,7 +156,7 @@ fn check_first(held: Held) -> Check
     refuse(Refusal::Unfit, !is_first(held))
 }
 
-fn check_total(words: &[u64], responses: &[Response], width: u32, held: Held) -> Check
+pub fn check_total(words: &[u64], responses: &[Response], width: u32, held: Held) -> Check
     ensures { λ r. ⌜ r ≡ totalCheck (machine width (now (words .entry)) (now (responses .entry))) held ⌝ }
 {
     in_order(check_step(words, responses, width, held), check_first(held))

@@ -58,7 +58,13 @@ fn check_free(held: Held) -> Check
     refuse(Refusal::Unfit, is_held(held))
 }
 
-fn check_start(words: &[u64], responses: &[Response], width: u32, held: Held, offered: Job) -> Check
+pub fn check_start(
+    words: &[u64],
+    responses: &[Response],
+    width: u32,
+    held: Held,
+    offered: Job,
+) -> Check
     ensures { λ r. ⌜ r ≡ startCheck (machine width (now (words .entry)) (now (responses .entry))) held offered ⌝ }
 {
     in_order(

@@ -45,7 +45,7 @@ pub record Entry : Type 0 where
   pub also : ℕ
   pub holds : Bool
 
-abbrev entry : ℕ → Bool → Entry
+abbrev pub entry : ℕ → Bool → Entry
 entry k b = record { number = k; also = 0; holds = b }
 
 -- "Checked in number order": the number of the first condition that holds and what it also answers, or 0 and 0

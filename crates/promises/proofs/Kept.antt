@@ -51,19 +51,13 @@ use Rattle.image.specs.Calls.{refuseBytes, readCheck, readOf, responsesRead, St
 use Rattle.image.proofs.Unique.{stored-again}
 use Rattle.hosts.specs.Images.{Typed}
 use Rattle.hosts.proofs.Typed.{pulsed-responses, first-fits, stepped-typed}
-use Rattle.promises.proofs.Calls.{panelIn, linesIn, plain-pulse-meets, wide-pulse-meets, plain-entry-meets, wide-entry-meets, answer-meets, round-meets, start-meets, step-meets, read-meets}
+use Rattle.promises.proofs.Calls.{plain-pulse-meets, wide-pulse-meets, answer-meets, round-meets, start-meets, step-meets, read-meets}
 use Rattle.cells.proofs.pulse as plain-pulse
 use Rattle.cells.proofs.pulse.Kinds as plain-pulse-kinds
 use Rattle.cells.proofs.pulse.Reads as plain-pulse-reads
 use Rattle.wide.proofs.pulse as wide-pulse
 use Rattle.wide.proofs.pulse.Kinds as wide-pulse-kinds
 use Rattle.wide.proofs.pulse.Reads as wide-pulse-reads
-use Rattle.entries.proofs.dushvaneth_cells_pulse as plain-entry
-use Rattle.entries.proofs.dushvaneth_cells_pulse.Kinds as plain-entry-kinds
-use Rattle.entries.proofs.dushvaneth_cells_pulse.Reads as plain-entry-reads
-use Rattle.entries.proofs.dushvaneth_wide_pulse as wide-entry
-use Rattle.entries.proofs.dushvaneth_wide_pulse.Kinds as wide-entry-kinds
-use Rattle.entries.proofs.dushvaneth_wide_pulse.Reads as wide-entry-reads
 use Rattle.rounds.proofs.answer as answer
 use Rattle.rounds.proofs.answer.Kinds as answer-kinds
 use Rattle.rounds.proofs.answer.Reads as answer-reads
@@ -192,20 +186,6 @@ pub wide-pulse-keeps : (κs : Lfts 2) (a : ArgsD wide-pulse.signature κs) (r : 
 wide-pulse-keeps κs a r s p h =
     let m = machine (a .1 .1 .0) (now (a .0)) (now (a .1 .0)) in
     so m _ _ h (wide-pulse-meets κs a r s p .1 .leaves) (a-pulse m (a .1 .1 .1 .0) (a .1 .1 .1 .1 .0))
-
-pub plain-entry-keeps : (κs : Lfts 2) (a : ArgsD plain-entry.signature κs) (r : ResD plain-entry.signature κs) (s : AtExit (endedOf 2 plain-entry-kinds.ps plain-entry-kinds.r) κs)
-    → plain-entry-reads.Post κs a r s → (h : Held)
-    → Typed (state (a .1 .1 .0) (now (a .0)) (now (a .1 .0)) h) → Typed (state (a .1 .1 .0) (now (s .0)) (now (s .1 .0)) h)
-plain-entry-keeps κs a r s p h =
-    let m = machine (a .1 .1 .0) (now (a .0)) (now (a .1 .0)) in
-    so m _ _ h (plain-entry-meets κs a r s p .leaves .leaves) (a-pulse m (panelIn κs a) (linesIn κs a))
-
-pub wide-entry-keeps : (κs : Lfts 2) (a : ArgsD wide-entry.signature κs) (r : ResD wide-entry.signature κs) (s : AtExit (endedOf 2 wide-entry-kinds.ps wide-entry-kinds.r) κs)
-    → wide-entry-reads.Post κs a r s → (h : Held)
-    → Typed (state (a .1 .1 .0) (now (a .0)) (now (a .1 .0)) h) → Typed (state (a .1 .1 .0) (now (s .0)) (now (s .1 .0)) h)
-wide-entry-keeps κs a r s p h =
-    let m = machine (a .1 .1 .0) (now (a .0)) (now (a .1 .0)) in
-    so m _ _ h (wide-entry-meets κs a r s p .leaves .leaves) (a-pulse m (panelIn κs a) (linesIn κs a))
 
 pub answer-keeps : (κs : Lfts 2) (a : ArgsD answer.signature κs) (r : ResD answer.signature κs) (s : AtExit (endedOf 2 answer-kinds.ps answer-kinds.r) κs)
     → answer-reads.Post κs a r s → (h : Held)

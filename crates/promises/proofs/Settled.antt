@@ -21,12 +21,6 @@ use Rattle.cells.proofs.pulse.Reads as plain-pulse-reads
 use Rattle.wide.proofs.pulse as wide-pulse
 use Rattle.wide.proofs.pulse.Kinds as wide-pulse-kinds
 use Rattle.wide.proofs.pulse.Reads as wide-pulse-reads
-use Rattle.entries.proofs.dushvaneth_cells_pulse as plain-entry
-use Rattle.entries.proofs.dushvaneth_cells_pulse.Kinds as plain-entry-kinds
-use Rattle.entries.proofs.dushvaneth_cells_pulse.Reads as plain-entry-reads
-use Rattle.entries.proofs.dushvaneth_wide_pulse as wide-entry
-use Rattle.entries.proofs.dushvaneth_wide_pulse.Kinds as wide-entry-kinds
-use Rattle.entries.proofs.dushvaneth_wide_pulse.Reads as wide-entry-reads
 use Rattle.resolver.proofs.scan as scan
 use Rattle.resolver.proofs.scan.Kinds as scan-kinds
 use Rattle.resolver.proofs.scan.Reads as scan-reads
@@ -110,15 +104,6 @@ plain-pulse-settled κs a r r′ s s′ h g = (h .0 ∙ sym (g .0), h .1 .0 ∙ 
 pub wide-pulse-settled : (κs : Lfts 2) (a : ArgsD wide-pulse.signature κs) (r r′ : ResD wide-pulse.signature κs) (s s′ : AtExit (endedOf 2 wide-pulse-kinds.ps wide-pulse-kinds.r) κs)
     → wide-pulse-reads.Post κs a r s → wide-pulse-reads.Post κs a r′ s′ → (r ≡ r′) × (now (s .0) ≡ now (s′ .0)) × (now (s .1 .0) ≡ now (s′ .1 .0))
 wide-pulse-settled κs a r r′ s s′ h g = (h .0 ∙ sym (g .0), h .1 .0 ∙ sym (g .1 .0), h .1 .1 ∙ sym (g .1 .1))
-
--- the same two for callers in other languages
-pub plain-entry-settled : (κs : Lfts 2) (a : ArgsD plain-entry.signature κs) (r r′ : ResD plain-entry.signature κs) (s s′ : AtExit (endedOf 2 plain-entry-kinds.ps plain-entry-kinds.r) κs)
-    → plain-entry-reads.Post κs a r s → plain-entry-reads.Post κs a r′ s′ → (r ≡ r′) × (now (s .0) ≡ now (s′ .0)) × (now (s .1 .0) ≡ now (s′ .1 .0))
-plain-entry-settled κs a r r′ s s′ h g = (h .0 ∙ sym (g .0), h .1 .0 ∙ sym (g .1 .0), h .1 .1 ∙ sym (g .1 .1))
-
-pub wide-entry-settled : (κs : Lfts 2) (a : ArgsD wide-entry.signature κs) (r r′ : ResD wide-entry.signature κs) (s s′ : AtExit (endedOf 2 wide-entry-kinds.ps wide-entry-kinds.r) κs)
-    → wide-entry-reads.Post κs a r s → wide-entry-reads.Post κs a r′ s′ → (r ≡ r′) × (now (s .0) ≡ now (s′ .0)) × (now (s .1 .0) ≡ now (s′ .1 .0))
-wide-entry-settled κs a r r′ s s′ h g = (h .0 ∙ sym (g .0), h .1 .0 ∙ sym (g .1 .0), h .1 .1 ∙ sym (g .1 .1))
 
 pub scan-settled : (κs : Lfts 2) (a : ArgsD scan.signature κs) (r r′ : ResD scan.signature κs) (s s′ : AtExit (endedOf 2 scan-kinds.ps scan-kinds.r) κs)
     → scan-reads.Post κs a r s → scan-reads.Post κs a r′ s′ → r ≡ r′

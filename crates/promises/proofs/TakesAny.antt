@@ -16,10 +16,6 @@ use Rattle.cells.proofs.pulse as plain-pulse
 use Rattle.cells.proofs.pulse.Reads as plain-pulse-reads
 use Rattle.wide.proofs.pulse as wide-pulse
 use Rattle.wide.proofs.pulse.Reads as wide-pulse-reads
-use Rattle.entries.proofs.dushvaneth_cells_pulse as plain-entry
-use Rattle.entries.proofs.dushvaneth_cells_pulse.Reads as plain-entry-reads
-use Rattle.entries.proofs.dushvaneth_wide_pulse as wide-entry
-use Rattle.entries.proofs.dushvaneth_wide_pulse.Reads as wide-entry-reads
 use Rattle.resolver.proofs.scan as scan
 use Rattle.resolver.proofs.scan.Reads as scan-reads
 use Rattle.resolver.proofs.network as network
@@ -78,12 +74,6 @@ plain-pulse-takes-any κs a = tt
 
 pub wide-pulse-takes-any : (κs : Lfts 2) (a : ArgsD wide-pulse.signature κs) → wide-pulse-reads.Pre κs a
 wide-pulse-takes-any κs a = tt
-
-pub plain-entry-takes-any : (κs : Lfts 2) (a : ArgsD plain-entry.signature κs) → plain-entry-reads.Pre κs a
-plain-entry-takes-any κs a = tt
-
-pub wide-entry-takes-any : (κs : Lfts 2) (a : ArgsD wide-entry.signature κs) → wide-entry-reads.Pre κs a
-wide-entry-takes-any κs a = tt
 
 pub scan-takes-any : (κs : Lfts 2) (a : ArgsD scan.signature κs) → scan-reads.Pre κs a
 scan-takes-any κs a = tt

@@ -28,7 +28,7 @@ pub enum Reply {
 
 // ---- the checks, in the table's order
 
-fn check_show(words: &[u64], responses: &[Response], width: u32, x: ResponseBit) -> Check
+pub fn check_show(words: &[u64], responses: &[Response], width: u32, x: ResponseBit) -> Check
     ensures { λ r. ⌜ r ≡ showCheck x (machine width (now (words .entry)) (now (responses .entry))) ⌝ }
 {
     let sound = machine::check_machine(words, responses, width);
@@ -79,7 +79,7 @@ fn lowest_with(responses: &[Response], x: ResponseBit) -> Found
 }
 
 // The word shown is looked for only where X is a response bit.
-fn check_answer(
+pub fn check_answer(
     words: &[u64],
     responses: &[Response],
     width: u32,

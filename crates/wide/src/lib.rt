@@ -58,7 +58,7 @@ fn check_rest(words: usize, width: u32, panel: Panel, lines: Lines) -> Check
 }
 
 // "A pulse is checked for 1 to 7 .. Checked in number order."
-fn check(words: &[u64], responses: &[Response], width: u32, panel: Panel, lines: Lines) -> Check
+pub fn check(words: &[u64], responses: &[Response], width: u32, panel: Panel, lines: Lines) -> Check
     ensures { λ r. ⌜ r ≡ pulseCheck (machine width (now (words .entry)) (now (responses .entry))) panel lines ⌝ }
 {
     let first = machine::check_machine(words, responses, width);

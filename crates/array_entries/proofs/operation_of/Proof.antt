@@ -19,7 +19,8 @@ returns-3 c =
 
 returns-4 : tie.Need-returns-4
 returns-4 c =
-    none-of-them (c .before .before .before .before .args .code) _ (c .before .before .before .digit-of .ensures) (search needs) (search needs) (search needs)
+    none-of-them (c .before .before .before .before .args .code) _ (c .before .before .before .digit-of .ensures) (search needs) (search needs)
+    (search needs)
 
 pub operation-of-spec : {M : Type 1} → statement M
 operation-of-spec =

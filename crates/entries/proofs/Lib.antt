@@ -1,2 +1,0 @@
--- one law for both entry points
-pub mod Numbers

@@ -1,2 +1,0 @@
--- what the entry points' contracts cite
-pub mod Numbers

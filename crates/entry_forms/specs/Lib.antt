@@ -1,0 +1,3 @@
+-- what callers in other languages hand over and are told
+pub mod Numbers
+pub mod Records

@@ -1,0 +1,2 @@
+-- what the entry points of images promise
+pub mod Entries

@@ -1,0 +1,2 @@
+-- laws of the entry points of jobs
+pub mod Entries

@@ -1,0 +1,2 @@
+-- what the entry points of jobs promise
+pub mod Entries

@@ -1,0 +1,2 @@
+-- one law for each arm of the entry points
+pub mod Entries

@@ -1,0 +1,2 @@
+-- what the entry points of the hand-out round promise
+pub mod Entries
