@@ -5,15 +5,20 @@ mod opaque;
 use opaque::black_box;
 use std::time::Instant;
 
+type Operate = unsafe extern "C" fn(
+    ones: *mut u64, n: usize, xs: *mut u64, m: usize, selectors: *mut u8, k: usize, registers: *mut u64, r: usize, width: u32,
+    code: u32, answer: *mut u64, room: usize,
+) -> u32;
+
 extern "C" {
     fn dushvaneth_array_wide(
         ones: *mut u64, n: usize, xs: *mut u64, m: usize, selectors: *mut u8, k: usize, registers: *mut u64, r: usize,
-        width: u32, code: u32,
-    ) -> u64;
+        width: u32, code: u32, answer: *mut u64, room: usize,
+    ) -> u32;
     fn dushvaneth_array_cells(
         ones: *mut u64, n: usize, xs: *mut u64, m: usize, selectors: *mut u8, k: usize, registers: *mut u64, r: usize,
-        width: u32, code: u32,
-    ) -> u64;
+        width: u32, code: u32, answer: *mut u64, room: usize,
+    ) -> u32;
 }
 
 #[derive(Clone, Debug, PartialEq)]
@@ -27,22 +32,24 @@ struct Array {
 
 type Call = fn(&mut Array, u32) -> u64;
 
-fn wide(a: &mut Array, code: u32) -> u64 {
-    unsafe {
-        dushvaneth_array_wide(
+// The count, or a refusal's number above it.
+fn called(operate: Operate, a: &mut Array, code: u32) -> u64 {
+    let mut answer = [0; 6];
+    let number = unsafe {
+        operate(
             a.ones.as_mut_ptr(), a.ones.len(), a.xs.as_mut_ptr(), a.xs.len(), a.selectors.as_mut_ptr(),
-            a.selectors.len(), a.registers.as_mut_ptr(), a.registers.len(), a.width, code,
+            a.selectors.len(), a.registers.as_mut_ptr(), a.registers.len(), a.width, code, answer.as_mut_ptr(), answer.len(),
         )
-    }
+    };
+    number as u64 * REFUSED + answer[5]
+}
+
+fn wide(a: &mut Array, code: u32) -> u64 {
+    called(dushvaneth_array_wide, a, code)
 }
 
 fn cells(a: &mut Array, code: u32) -> u64 {
-    unsafe {
-        dushvaneth_array_cells(
-            a.ones.as_mut_ptr(), a.ones.len(), a.xs.as_mut_ptr(), a.xs.len(), a.selectors.as_mut_ptr(),
-            a.selectors.len(), a.registers.as_mut_ptr(), a.registers.len(), a.width, code,
-        )
-    }
+    called(dushvaneth_array_cells, a, code)
 }
 
 // ---- by hand, with whole words

@@ -50,7 +50,7 @@ fn put_number(bytes: &mut Vec<u8>, number: u64, count: u32) {
 
 /// "Kind, key, care, X, Y, lowest bit and width of A, B, P, phase, i, j, then
 /// c in 8 bytes, low first."
-fn put_job(bytes: &mut Vec<u8>, job: &Job) {
+pub fn put_job(bytes: &mut Vec<u8>, job: &Job) {
     bytes.extend_from_slice(&[job.kind, job.key, job.care, job.x, job.y]);
     for span in [job.a, job.b, job.p] {
         bytes.extend_from_slice(&[span.low, span.width]);
@@ -120,7 +120,7 @@ fn number_of(field: &[u8]) -> u64 {
 }
 
 /// The record of a job's 22 bytes.
-fn job_of(field: &[u8]) -> Job {
+pub fn job_of(field: &[u8]) -> Job {
     let span = |at: usize| Span {
         low: field[at],
         width: field[at + 1],

@@ -1,0 +1,152 @@
+/* Faults of the library that random.c must find, each in one function: `fault` says which of them is there. Included by trial.h in a
+ * build with -DFAULTS; every other function is the library's own. */
+static int fault;
+
+#define faulty_load dushvaneth_load
+#define faulty_cells_pulse dushvaneth_cells_pulse
+#define faulty_network dushvaneth_network
+#define faulty_total dushvaneth_total
+#define faulty_array_cells dushvaneth_array_cells
+
+static volatile uint8_t touched;
+
+/* The record before a call, if there is one. */
+static void keep(uint8_t *was, const uint8_t *job, size_t j)
+{
+    if (j == DUSHVANETH_RECORD) {
+        memcpy(was, job, DUSHVANETH_RECORD);
+    }
+}
+
+/* 1: an address is off by one. 2: a refusal changes a response. 3: the width's low byte is what is looked at. */
+static uint32_t faulty_wide_pulse(uint64_t *words, size_t n, dushvaneth_response *responses, size_t m, uint32_t width,
+                                  const uint64_t *panel, size_t p, uint8_t lines, uint64_t *answer, size_t a)
+{
+    uint64_t moved[DUSHVANETH_PANEL];
+    uint32_t r;
+    if (fault == 1 && p == DUSHVANETH_PANEL) {
+        memcpy(moved, panel, sizeof moved);
+        moved[DUSHVANETH_ADDRESS]++;
+        panel = moved;
+    }
+    r = dushvaneth_wide_pulse(words, n, responses, m, fault == 3 ? width & 255 : width, panel, p, lines, answer, a);
+    if (fault == 2 && r != 0 && m > 0) {
+        responses[m - 1] ^= 1;
+    }
+    return r;
+}
+
+/* 4: an answer that is too short is told as far as it goes. */
+static uint32_t faulty_scan(const uint64_t *words, size_t n, const dushvaneth_response *responses, size_t m, uint32_t width,
+                            dushvaneth_response key, dushvaneth_response care, uint64_t *answer, size_t a)
+{
+    uint32_t r = dushvaneth_scan(words, n, responses, m, width, key, care, answer, a);
+    if (fault == 4 && r == 10 && a > 0) {
+        answer[DUSHVANETH_REFUSAL] = r;
+    }
+    return r;
+}
+
+/* 5: a byte behind the responses is read. */
+static uint32_t faulty_show(const uint64_t *words, size_t n, const dushvaneth_response *responses, size_t m, uint32_t width, uint8_t x,
+                            uint64_t *answer, size_t a)
+{
+    if (fault == 5 && responses != NULL) {
+        touched = responses[m];
+    }
+    return dushvaneth_show(words, n, responses, m, width, x, answer, a);
+}
+
+/* 6: 11 comes before 10. */
+static uint32_t faulty_answer(const uint64_t *words, size_t n, dushvaneth_response *responses, size_t m, uint32_t width, uint8_t x,
+                              uint8_t f, size_t word, uint8_t verdict, uint64_t *answer, size_t a)
+{
+    uint32_t r = dushvaneth_answer(words, n, responses, m, width, x, f, word, verdict, answer, a);
+    uint64_t shown[DUSHVANETH_RESOLVED_ANSWER];
+    if (fault == 6 && r == 10 && dushvaneth_show(words, n, responses, m, width, x, shown, DUSHVANETH_RESOLVED_ANSWER) == 0 &&
+        (shown[DUSHVANETH_FOUND] == 0 || shown[DUSHVANETH_FOUND_WORD] != word)) {
+        return 11;
+    }
+    return r;
+}
+
+/* 7: the byte before the verdicts is read. */
+static uint32_t faulty_round(const uint64_t *words, size_t n, dushvaneth_response *responses, size_t m, uint32_t width, uint8_t x,
+                             uint8_t f, const uint8_t *verdicts, size_t v, uint64_t *answer, size_t a)
+{
+    if (fault == 7 && verdicts != NULL) {
+        touched = verdicts[-1];
+    }
+    return dushvaneth_round(words, n, responses, m, width, x, f, verdicts, v, answer, a);
+}
+
+/* 8: what was in the record's unused fields stays. */
+static uint32_t faulty_start(const uint64_t *words, size_t n, const dushvaneth_response *responses, size_t m, uint32_t width,
+                             const uint8_t *held, size_t h, uint8_t *job, size_t j, uint64_t *answer, size_t a)
+{
+    uint8_t was = j > DUSHVANETH_JOB_B ? job[DUSHVANETH_JOB_B] : 0;
+    uint32_t r = dushvaneth_start(words, n, responses, m, width, held, h, job, j, answer, a);
+    if (fault == 8 && r == 0) {
+        job[DUSHVANETH_JOB_B] = was;
+    }
+    return r;
+}
+
+/* 9: the record isn't written. 10: the count is that of the words. */
+static uint32_t faulty_step(uint64_t *words, size_t n, dushvaneth_response *responses, size_t m, uint32_t width, uint8_t *job, size_t j,
+                            uint64_t *answer, size_t a)
+{
+    uint8_t was[DUSHVANETH_RECORD];
+    uint32_t r;
+    keep(was, job, j);
+    r = dushvaneth_step(words, n, responses, m, width, job, j, answer, a);
+    if (fault == 9 && r == 0) {
+        memcpy(job, was, sizeof was);
+    }
+    if (fault == 10 && r == 0) {
+        answer[DUSHVANETH_STEP_COUNT] = n;
+    }
+    return r;
+}
+
+/* 11: a byte behind the image is cleared. */
+static uint32_t faulty_write(const uint64_t *words, size_t n, const dushvaneth_response *responses, size_t m, uint32_t width,
+                             const uint8_t *job, size_t j, uint8_t *image, size_t i, uint64_t *answer, size_t a)
+{
+    uint32_t r = dushvaneth_write(words, n, responses, m, width, job, j, image, i, answer, a);
+    if (fault == 11 && r == 0 && answer[DUSHVANETH_IMAGE_SIZE] < i) {
+        image[answer[DUSHVANETH_IMAGE_SIZE]] = 0;
+    }
+    return r;
+}
+
+/* 12: the record stays where no job is held. 13: the place of 9 is off by one. */
+static uint32_t faulty_read(const uint8_t *image, size_t i, uint64_t *words, size_t n, dushvaneth_response *responses, size_t m,
+                            uint8_t *job, size_t j, uint64_t *answer, size_t a)
+{
+    uint8_t was[DUSHVANETH_RECORD];
+    uint32_t r;
+    keep(was, job, j);
+    r = dushvaneth_read(image, i, words, n, responses, m, job, j, answer, a);
+    if (fault == 12 && r == 0 && answer[DUSHVANETH_IMAGE_HELD] == 0) {
+        memcpy(job, was, sizeof was);
+    }
+    if (fault == 13 && r == 9) {
+        answer[DUSHVANETH_ALSO]++;
+    }
+    return r;
+}
+
+/* 14: M isn't stored. */
+static uint32_t faulty_array_wide(uint64_t *ones, size_t n, uint64_t *xs, size_t x, uint8_t *selectors, size_t s, uint64_t *registers,
+                                  size_t g, uint32_t width, uint32_t code, uint64_t *answer, size_t a)
+{
+    uint64_t was = g == DUSHVANETH_ARRAY_REGISTERS ? registers[2] : 0;
+    uint32_t r = dushvaneth_array_wide(ones, n, xs, x, selectors, s, registers, g, width, code, answer, a);
+    if (fault == 14 && r == 0) {
+        registers[2] = was;
+    }
+    return r;
+}
+
+enum { faults = 14 };
