@@ -38,7 +38,7 @@ none-read bs e = rw (ne-eqb (length bs) recordSize e)
 pub put-by : (d e : List ℕ) (h k : Held) → h ≡ k → e ≡ sets d 0 (recordOf k) → e ≡ sets d 0 (recordOf h)
 put-by d e h k p f = rw p f
 
-length-record : (h : Held) → length (recordOf h) ≡ recordSize
+pub length-record : (h : Held) → length (recordOf h) ≡ recordSize
 length-record Nothing = length-bytes recordSize 0
 length-record (Holds o) = length-job o
 

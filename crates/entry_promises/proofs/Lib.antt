@@ -1,5 +1,6 @@
 -- the entry points' theorems: a reader opens these files
 pub mod Entered
+pub mod Kept
 pub mod Lowest
 pub mod Settled
 pub mod TakesAny

@@ -76,7 +76,7 @@ use Rattle.image.proofs.reading.read.Reads as read-reads
 
 -- ---- responses after a pulse, an answer and a round
 
-Stays : Machine → Machine → Type 0
+unfoldable pub Stays : Machine → Machine → Type 0
 Stays m n = AreResponses (m .responses) → AreResponses (n .responses)
 
 by-check : (c : Check) (m n : Machine) → Stays m n → Stays m (changeBy c n m)
@@ -84,7 +84,7 @@ unfolding Stays
 by-check Passed m n h = h
 by-check (Refused why) m n h = λ t. t
 
-a-pulse : (m : Machine) (p : Panel) (l : Lines) → Stays m (after m p l)
+pub a-pulse : (m : Machine) (p : Panel) (l : Lines) → Stays m (after m p l)
 unfolding after Stays
 a-pulse m p l = by-check (pulseCheck m p l) m (pulsed m p l) (pulsed-responses m p l)
 
@@ -97,7 +97,7 @@ set-responses [] k v g h = tt
 set-responses (r ∷ rs) zero v g h = (g, h .1)
 set-responses (r ∷ rs) (suc k) v g h = (h .0, set-responses rs k v g (h .1))
 
-an-answer : (x f : ResponseBit) (k : WordSlice) (v : Verdict) (m : Machine) → Stays m (afterAnswer x f k v m)
+pub an-answer : (x f : ResponseBit) (k : WordSlice) (v : Verdict) (m : Machine) → Stays m (afterAnswer x f k v m)
 unfolding afterAnswer Stays
 an-answer x f k v m = by-check (answerCheck x f k m) m (answeredAt x f k v m) (set-responses (m .responses) (k .0) _ (answered-fits x f v _))
 
@@ -106,7 +106,7 @@ unfolding each
 each-response f h k [] b = tt
 each-response f h k (r ∷ rs) b = (h k r (b .0), each-response f h (suc k) rs (b .1))
 
-a-round : (x f : ResponseBit) (vs : List ℕ) (m : Machine) → Stays m (afterRound x f vs m)
+pub a-round : (x f : ResponseBit) (vs : List ℕ) (m : Machine) → Stays m (afterRound x f vs m)
 unfolding afterRound afterEnded Stays
 a-round x f vs m =
     by-check (roundCheck x f m) m (afterEnded x f vs m) (each-response (worked x f vs) (λ k r h. go (has x r) (verdictOf vs k) r h) 0 (m .responses))
@@ -171,6 +171,11 @@ module _ (image ws rs : List ℕ) (bytes : AreBytes image) (e : readCheck image 
       ap (λ (c : Check). take n (changeBy c (sets rs 0 (stateIn image .machine .responses)) rs)) e
       ∙ first-of (stateIn image .machine .responses) rs n (g ∙ sym same-count) (omega (arith, room, many, same-count))
 
+  -- the first n responses then, beside any width and words, and the job that the image holds
+  pub an-image-read : (w n : ℕ) (xs : List ℕ) → n ≡ length (stateIn image .machine .words)
+      → Typed (state w xs (take n (responsesRead image ws rs)) (stateIn image .held))
+  an-image-read w n xs g = record { responses = rw (read-back n g) (was-stored .responses); job = was-stored .typed }
+
 -- ---- the calls that lend by &mut, and start, whose answer is the job that is held then
 
 pub plain-pulse-keeps : (κs : Lfts 2) (a : ArgsD plain-pulse.signature κs) (r : ResD plain-pulse.signature κs) (s : AtExit (endedOf 2 plain-pulse-kinds.ps plain-pulse-kinds.r) κs)
@@ -227,8 +232,4 @@ read-keeps κs a r s p w n h e b =
     let ws = now (a .1 .0) in
     let rs = now (a .1 .1 .0) in
     let g = reads (stateIn image) (readCheck image (length ws) (length rs)) w n h (sym (read-meets κs a r s p .0 .answers) ∙ e) in
-    let t = was-stored image ws rs b (g .check) in
-    record {
-      responses = rw (read-meets κs a r s p .2 .leaves, read-back image ws rs b (g .check) n (g .count)) (t .responses);
-      job = rw (g .held) (t .typed);
-    }
+    rw (read-meets κs a r s p .2 .leaves, g .held) (an-image-read image ws rs b (g .check) w n _ (g .count))
