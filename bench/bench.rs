@@ -17,7 +17,7 @@ use std::time::Instant;
 type Call = fn(&Panel, &mut [u64], &mut [u8]) -> u64;
 
 // Those of a group give the same.
-const GROUPS: [&[(&str, Call)]; 4] = [
+const GROUPS: [&[(&str, Call)]; 5] = [
     &[
         ("wide search", proved::wide_search),
         ("hand search, plain", hand::search),
@@ -38,6 +38,11 @@ const GROUPS: [&[(&str, Call)]; 4] = [
         ("wide multiwrite", proved::wide_multiwrite),
         ("hand multiwrite", hand::multiwrite),
         ("hand multiwrite, branching", hand::branching_multiwrite),
+    ],
+    &[
+        ("wide multiwrite+multiadd", proved::wide_both),
+        ("hand multiwrite+multiadd", hand::multiwrite_multiadd),
+        ("cells multiwrite+multiadd", proved::cells_both),
     ],
     &[("wide search+multiadd", proved::wide_pair), ("hand search+multiadd", hand::search_multiadd)],
 ];
@@ -152,7 +157,7 @@ fn measure(c: &mut Column, round: usize) {
 
 // ---- tables
 
-const RATIOS: [(&str, &str); 17] = [
+const RATIOS: [(&str, &str); 18] = [
     ("wide search", "hand search, plain"),
     ("wide search", "hand search, one comparison"),
     ("wide search", "hand search, blocked"),
@@ -167,6 +172,7 @@ const RATIOS: [(&str, &str); 17] = [
     ("wide multiadd", "hand multiadd, branching"),
     ("wide multiwrite", "hand multiwrite"),
     ("wide multiwrite", "hand multiwrite, branching"),
+    ("wide multiwrite+multiadd", "hand multiwrite+multiadd"),
     ("wide search+multiadd", "hand search+multiadd"),
     ("wide search+multiadd", "hand search, plain"),
     ("wide search+multiadd", "hand search, branching"),

@@ -305,6 +305,16 @@ pub fn multiwrite(p: &Panel, w: &mut [u64], r: &mut [u8]) -> u64 {
     count(p, r)
 }
 
+// A bit flips if the written word or the sum differs from the word there.
+pub fn multiwrite_multiadd(p: &Panel, w: &mut [u64], r: &mut [u8]) -> u64 {
+    let a = addend(p);
+    for (w, r) in w.iter_mut().zip(r.iter()) {
+        let new = *w ^ ((*w ^ written(p, *w)) | (*w ^ sum(a, *w)));
+        *w = if selected(p, *r) { new } else { *w };
+    }
+    count(p, r)
+}
+
 // With a branch: a word that is not selected is neither read nor stored. The compiler keeps it by itself, because it
 // must not store where the loop doesn't: the assembly has the jump.
 pub fn branching_multiadd(p: &Panel, w: &mut [u64], r: &mut [u8]) -> u64 {

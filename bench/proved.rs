@@ -58,10 +58,18 @@ pub fn wide_pair(p: &Panel, w: &mut [u64], r: &mut [u8]) -> u64 {
     wide(p, SEARCH | MULTIADD, w, r)
 }
 
+pub fn wide_both(p: &Panel, w: &mut [u64], r: &mut [u8]) -> u64 {
+    wide(p, MULTIWRITE | MULTIADD, w, r)
+}
+
 pub fn cells_search(p: &Panel, w: &mut [u64], r: &mut [u8]) -> u64 {
     cells(p, SEARCH, w, r)
 }
 
 pub fn cells_multiadd(p: &Panel, w: &mut [u64], r: &mut [u8]) -> u64 {
     cells(p, MULTIADD, w, r)
+}
+
+pub fn cells_both(p: &Panel, w: &mut [u64], r: &mut [u8]) -> u64 {
+    cells(p, MULTIWRITE | MULTIADD, w, r)
 }

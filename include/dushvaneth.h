@@ -97,7 +97,8 @@ enum dushvaneth_code { DUSHVANETH_DONT_CARE = 0, DUSHVANETH_EXACT = 1, DUSHVANET
 
 /* The line byte of a pulse: one line or a pair of the first six, or complement alone. All results are worked out from the machine before
  * the pulse: where search and multiwrite are raised together, the words written are those that were selected before. Two writes on one word
- * write once, two adds add once; a write and an add on one word give, at each bit, the OR of the two results. */
+ * write once, two adds add once; where a write and an add meet on one word, each asks for certain bits to flip, those at which its own result
+ * differs from the word, and a bit flips if either asks. */
 enum dushvaneth_line {
     DUSHVANETH_SEARCH = 1,
     DUSHVANETH_READ = 2,

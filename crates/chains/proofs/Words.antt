@@ -1,12 +1,13 @@
 -- What merging by a mask makes of a word and of response bits.
-use Prim.Native.Nat.{ℕ, _-_, _^_, _<_, max}
+use Prim.Native.Nat.{ℕ, _-_, _^_, _<_}
 use mathlib.Core.Path.{_≡_, refl, ap, _∙_}
-use mathlib.Core.Bool.{Bool, true, false}
+use mathlib.Core.Bool.{Bool, true, false, not, _||_}
 use native.Mathlib.Omega.{arith}
 use lib.Dec.{eqb}
+use lib.Bits.{bitXor, differ}
 use Rattle.laws.specs.Bits.{bit, number, pick, digit, under}
 use Rattle.laws.proofs.Digits.{Bit, off, on}
-use Rattle.laws.proofs.Bits.{digit-at, number-like, not-bit, bit-none}
+use Rattle.laws.proofs.Bits.{digit-at, number-like, xor-bit, not-bit, bit-none}
 use Rattle.machine.specs.Machine.{responseBits}
 use Rattle.machine.specs.Search.{marked}
 use Rattle.machine.specs.Pulse.{flipped, bothOf}
@@ -26,12 +27,18 @@ unfolding flipped
 flip-is target r g =
     number-like responseBits _ _ (λ i h. ap (λ (x : ℕ). pick (eqb (bit target i) 1) x (bit r i)) (not-bit 64 r i g (omega arith)))
 
--- where x has a one it is the greater, and elsewhere y is
-one-both : {x y : ℕ} → Bit x → Bit y → pick (eqb x 1) x y ≡ max x y
-one-both off off = refl
-one-both off on = refl
-one-both on off = refl
-one-both on on = refl
+-- where x asks to flip the bit is x's, and elsewhere y's
+one-both : {w x y : ℕ} → Bit w → Bit x → Bit y → pick (eqb (differ x w) 1) x y ≡ pick (not (eqb x w) || not (eqb y w)) (1 - w) w
+one-both off off off = refl
+one-both off off on = refl
+one-both off on off = refl
+one-both off on on = refl
+one-both on off off = refl
+one-both on off on = refl
+one-both on on off = refl
+one-both on on on = refl
 
-pub both-merged : (n x y : ℕ) → number n (under x (bit x) (bit y)) ≡ bothOf n x y
-both-merged n x y = number-like n _ _ (λ i h. one-both (digit-at x i) (digit-at y i))
+pub both-merged : (n w x y : ℕ) → number n (under (bitXor x w) (bit x) (bit y)) ≡ bothOf n w x y
+both-merged n w x y =
+    number-like n _ _
+    (λ i h. ap (λ (d : ℕ). pick (eqb d 1) (bit x i) (bit y i)) (xor-bit x w i) ∙ one-both (digit-at w i) (digit-at x i) (digit-at y i))

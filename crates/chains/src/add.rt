@@ -76,7 +76,8 @@ pub fn change_word(n: u32, panel: Panel, write: bool, add: bool, w: u64) -> u64
     let sum = add_word(n, panel, w);
     if write {
         if add {
-            merge(n, wrote, wrote, sum)
+            // where the write asks to flip the bit is the write's, and elsewhere it flips if the add asks
+            merge(n, wrote ^ w, wrote, sum)
         } else {
             wrote
         }

@@ -1,5 +1,5 @@
 -- A machine that passes 1 to 3 passes them after any accepted pulse: no word outgrows the width.
-use Prim.Native.Nat.{ℕ, _+_, _*_, _%_, _^_, _≤_, _<_, max}
+use Prim.Native.Nat.{ℕ, _+_, _*_, _%_, _^_, _≤_, _<_}
 use mathlib.Core.Path.{_≡_}
 use mathlib.Core.Bool.{Bool, true, false, _&&_, _||_}
 use mathlib.Core.List.{List, [], _∷_}
@@ -13,12 +13,12 @@ use Rattle.machine.specs.declared.Panel.{Panel}
 use Rattle.machine.specs.declared.Lines.{Lines}
 use Rattle.machine.specs.declared.Check.the-variants.{Passed}
 use Rattle.machine.specs.Machine.{Machine, Syllable, syllables, selected, over}
-use Rattle.machine.specs.Pulse.{written, addend, sums, added, change, wordAfter, pulsed}
+use Rattle.machine.specs.Pulse.{written, addend, sums, added, asksFlip, change, wordAfter, pulsed}
 use Rattle.machine.specs.Refusals.{machineCheck}
 use Rattle.machine.proofs.Machine.{Tiled, syllables-tile}
 use Rattle.machine.proofs.Refusals.{sound}
 use Rattle.ends.proofs.Machines.{passes, pos, sound-after}
-use Rattle.hosts.proofs.Below.{bit-below, either-below}
+use Rattle.hosts.proofs.Below.{bit-below, flip-below, either-below}
 
 one-syllable : (a rest width low lo hi : ℕ) → low ≡ lo → a < 2 ^ width → rest + 2 ^ (lo + width) ≤ 2 ^ hi → a * 2 ^ low + rest + 2 ^ lo ≤ 2 ^ hi
 one-syllable a rest width low lo hi e h g =
@@ -38,14 +38,12 @@ added-fits : (n : ℕ) (p : Panel) (w : ℕ) → 0 < n → added n p w < 2 ^ n
 unfolding added
 added-fits n p w h = let s = sums-fit p w (syllables n (p .sdr)) 0 n (syllables-tile n (p .sdr) h) in omega (arith, s)
 
-max-below : {a b : ℕ} → a < 2 → b < 2 → max a b < 2
-max-below h g = omega arith
-
 changed-fits : (n : ℕ) (write add : Bool) (w x y : ℕ) → w < 2 ^ n → x < 2 ^ n → y < 2 ^ n → change n write add w x y < 2 ^ n
 changed-fits n false false w x y h g k = h
 changed-fits n false true w x y h g k = k
 changed-fits n true false w x y h g k = g
-changed-fits n true true w x y h g k = number-lt n _ (λ i l. max-below (bit-below x i) (bit-below y i))
+changed-fits n true true w x y h g k =
+    number-lt n _ (λ i l. either-below (asksFlip w x i || asksFlip w y i) (flip-below (bit-below w i)) (bit-below w i))
 
 word-fits : (n : ℕ) (p : Panel) (l : Lines) → 0 < n → (k w r : ℕ) → w < 2 ^ n → wordAfter n p l k w r < 2 ^ n
 unfolding wordAfter written

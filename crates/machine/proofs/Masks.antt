@@ -1,7 +1,7 @@
 -- What the definitions that go bit by bit are as masks of whole numbers: selection, marks, flips, writes and the addend.
 use Prim.Native.Nat.{ℕ, _-_, _^_, _<_, min, max}
 use mathlib.Core.Path.{_≡_, refl, sym, ap₂, _∙_}
-use mathlib.Core.Bool.{Bool, true, false, _||_}
+use mathlib.Core.Bool.{Bool, true, false, not, _||_}
 use native.Mathlib.Nat.{mod-eq-of-lt}
 use native.Mathlib.Omega.{arith}
 use lib.Dec.{eqb}
@@ -35,6 +35,16 @@ one-written on off off = refl
 one-written on off on = refl
 one-written on on off = refl
 one-written on on on = refl
+
+one-both : {w x y : ℕ} → Bit w → Bit x → Bit y → differ w (max (differ w x) (differ w y)) ≡ pick (not (eqb x w) || not (eqb y w)) (1 - w) w
+one-both off off off = refl
+one-both off off on = refl
+one-both off on off = refl
+one-both off on on = refl
+one-both on off off = refl
+one-both on off on = refl
+one-both on on off = refl
+one-both on on on = refl
 
 -- under a mask's bit: set, cleared, flipped, kept
 one-masked : {m r : ℕ} → Bit m → Bit r
@@ -77,8 +87,10 @@ written-is n p w hw hc =
     number-fits n _ _ (xor-lt n w _ hw (omega (arith, and-le-l (bitXor w (p .comp)) (p .mor), xor-lt n w (p .comp) hw hc)))
     (λ i g. simp (xor-bit, and-bit) (one-written (digit-at (p .mor) i) (digit-at (p .comp) i) (digit-at w i)))
 
-pub both-is : (n x y : ℕ) → x < 2 ^ n → y < 2 ^ n → bothOf n x y ≡ bitOr x y
-both-is n x y hx hy = number-fits n _ _ (or-lt n x y hx hy) (λ i g. or-bit x y i)
+pub both-is : (n w x y : ℕ) → w < 2 ^ n → x < 2 ^ n → y < 2 ^ n → bothOf n w x y ≡ bitXor w (bitOr (bitXor w x) (bitXor w y))
+both-is n w x y hw hx hy =
+    number-fits n _ _ (xor-lt n w _ hw (or-lt n (bitXor w x) (bitXor w y) (xor-lt n w x hw hx) (xor-lt n w y hw hy)))
+    (λ i g. simp (xor-bit, or-bit) (one-both (digit-at w i) (digit-at x i) (digit-at y i)))
 
 pub addend-is : (p : Panel) (i : ℕ) → bit (bitAnd (p .comp) (p .mor)) i ≡ addend p i
 addend-is p i = rw and-bit (one-masked (digit-at (p .mor) i) (digit-at (p .comp) i) .3)

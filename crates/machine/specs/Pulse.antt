@@ -1,7 +1,7 @@
 -- Document 01, 'One pulse': write, add, pairs, complement, count and read; what a pulse does to the machine.
 -- "All results are worked out from the machine before the pulse."
-use Prim.Native.Nat.{ℕ, _+_, _*_, _-_, _%_, _^_, max}
-use mathlib.Core.Bool.{Bool, true, false, _&&_, _||_}
+use Prim.Native.Nat.{ℕ, _+_, _*_, _-_, _%_, _^_}
+use mathlib.Core.Bool.{Bool, true, false, not, _&&_, _||_}
 use mathlib.Core.List.{List, [], _∷_}
 use lib.Dec.{eqb}
 use lib.ListN.{getD}
@@ -29,16 +29,20 @@ sums p w (y ∷ ys) = (over y (bit w) + over y (addend p)) % 2 ^ y .width * 2 ^ 
 unfoldable pub added : ℕ → Panel → ℕ → ℕ
 added n p w = sums p w (syllables n (p .sdr))
 
--- "A write and an add on one word give, at each bit, the OR of the two results (000, 4.6 as told in 5.1.5)."
-abbrev pub bothOf : ℕ → ℕ → ℕ → ℕ
-bothOf n x y = number n (λ i. max (bit x i) (bit y i))
+-- 02 b: "Where a write and an add meet on one word, each asks for certain bits to flip": those at which its result x differs from the word w, ..
+abbrev pub asksFlip : ℕ → ℕ → ℕ → Bool
+asksFlip w x i = not (eqb (bit x i) (bit w i))
+
+-- .. "and a bit flips if either asks."
+abbrev pub bothOf : ℕ → ℕ → ℕ → ℕ → ℕ
+bothOf n w x y = number n (λ i. pick (asksFlip w x i || asksFlip w y i) (1 - bit w i) (bit w i))
 
 -- a word that is neither written nor added to, added to, written, or both
 abbrev pub change : ℕ → Bool → Bool → ℕ → ℕ → ℕ → ℕ
 change n false false w x y = w
 change n false true w x y = y
 change n true false w x y = x
-change n true true w x y = bothOf n x y
+change n true true w x y = bothOf n w x y
 
 -- "read, write, add (the last three at the address)", multiwrite and multiadd "in all selected words".
 -- "Two writes on one word write once; two adds add once (house)."

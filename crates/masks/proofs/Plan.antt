@@ -1,12 +1,14 @@
 -- The sweeps' rules with the panel's masks are the machine's definitions: what the code computes by whole words is what document 01 says bit by bit
 -- and syllable by syllable ('One pulse').
-use Prim.Native.Nat.{ℕ, _^_, _<_}
+use Prim.Native.Nat.{ℕ, _+_, _-_, _%_, _^_, _≤_, _<_}
 use mathlib.Core.Path.{_≡_, refl, sym, ap, ap₂, _∙_}
 use mathlib.Core.List.{List}
 use mathlib.Core.Bool.{Bool, true, false, _&&_}
+use native.Mathlib.Nat.{mod-lt}
 use native.Mathlib.Omega.{arith}
 use lib.Dec.{eqb}
 use lib.Bits.{bitAnd, bitOr, bitXor, and-le-l, xor-lt}
+use lib.Pow.{pow-mono, pow-pos}
 use Rattle.laws.specs.Bits.{pick, digit}
 use Rattle.laws.specs.Lists.{all}
 use Rattle.machine.specs.declared.Panel.{Panel}
@@ -22,9 +24,10 @@ use Rattle.fields.proofs.Turned.{limit}
 use Rattle.fields.proofs.Tested.{tested-word}
 use Rattle.fields.proofs.WordSum.{sum-word}
 use Rattle.fields.proofs.Reader.{all-satisfied-is, added-is}
-use Rattle.sweeps.specs.Rules.{test, flag, chosen, hit, put, mark, found, answer, written, summed, new, choice, gated, changed, flipped}
+use Rattle.sweeps.specs.Rules.{test, flag, chosen, hit, put, mark, found, answer, written, summed, asked, both as flips, new, choice, gated, changed, flipped}
 use Rattle.masks.specs.Plan.{masksOf, tagsOf, changesOf}
 use Rattle.masks.specs.Plan.{Fit}
+use Rattle.masks.proofs.Asked.{asked-is}
 
 module _ (n : ℕ) (p : Panel) (f : Fit n p) (care : p .care < 2 ^ responseBits) (target : p .target < 2 ^ responseBits) where
   pub chosen-is : (r : ℕ) → chosen (tagsOf p) r ≡ selected (p .key) (p .care) r
@@ -89,12 +92,23 @@ module _ (n : ℕ) (p : Panel) (f : Fit n p) (care : p .care < 2 ^ responseBits)
     added-lt : m.added n p w < 2 ^ n
     added-lt = rw (added-is n p w) (rw (bits-fields n (p .sdr)) at (add-lt (fields n (p .sdr)) w (bitAnd (p .comp) (p .mor)) 0))
 
+    asked-as : asked (changesOf n p) w ≡ bitXor w (m.added n p w)
+    unfolding asked summed changesOf
+    asked-as =
+        let most : 2 ^ n ≤ 2 ^ 64 = pow-mono (f .most) in
+        let t : ℕ = topsOf n (p .sdr) in
+        let within : t < 2 ^ n = topped n (p .sdr) (f .least) (f .most) (f .sdr) .within in
+        let a : ℕ = bitAnd (p .comp) (p .mor) in
+        let low : ℕ = bitAnd w (2 ^ 64 - 1 - t) + bitAnd a (2 ^ 64 - 1 - t) in
+        asked-is 64 w a t (low % 2 ^ 64) (omega arith) (omega (arith, and-le-l (p .comp) (p .mor), f .comp)) (omega arith) (mod-lt low (pow-pos 64))
+        ∙ ap (bitXor w) summed-as
+
     pub new-is : (write add : Bool) → new write add (changesOf n p) w ≡ m.change n write add w (m.written n p w) (m.added n p w)
-    unfolding new
+    unfolding new flips
     new-is false false = refl
     new-is false true = summed-as
     new-is true false = written-as
-    new-is true true = ap₂ bitOr written-as summed-as ∙ sym (both-is n _ _ written-lt added-lt)
+    new-is true true = ap₂ (λ (x : ℕ) (y : ℕ). bitXor w (bitOr (bitXor w x) y)) written-as asked-as ∙ sym (both-is n w _ _ h written-lt added-lt)
 
     pub changed-is : (write add : Bool) (r : ℕ)
         → let sel = selected (p .key) (p .care) r in

@@ -146,7 +146,7 @@ table =
     ∷ become 5 8 (panel 0xAA 0x88 0 0 0x0F 0) multiwrite three (0x3A ∷ 0x9A ∷ 0x3A ∷ [])
     ∷ becomes 6 8 (panel 0b110010 0x88 0 0 0b110010 0) multiwrite 0b000101 0b110111
     ∷ becomes 6 8 (panel 0b110010 0x88 0 0 0b001101 0) multiwrite 0b111111 0b110010
-    ∷ become 7 8 (panel 0x0C 0x88 0 0 0x0F 0) write-and-add three (0x3D ∷ 0x9C ∷ 0x35 ∷ [])
+    ∷ become 7 8 (panel 0x0C 0x88 0 0 0x0F 0) write-and-add three (0x38 ∷ 0x9C ∷ 0x35 ∷ [])
     ∷ becomes 8 64 (panel 1 0 0 0 (2 ^ 64 - 1) 0) multiadd (2 ^ 64 - 1) 0
     ∷ worked 9 (job 1 0 (span 0 4) none none 0) three 7 three (0 ∷ 1 ∷ 0 ∷ [])
     ∷ worked 9 (job 2 0 (span 0 4) none none 0) three 7 three (1 ∷ 0 ∷ 1 ∷ [])

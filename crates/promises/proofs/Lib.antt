@@ -7,6 +7,7 @@ pub mod Demand2
 pub mod Demand3
 pub mod Figures
 pub mod Kept
+pub mod Meeting
 pub mod Rounds
 pub mod Settled
 pub mod TakesAny

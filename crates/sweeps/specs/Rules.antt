@@ -50,12 +50,20 @@ written q w = bitXor w (bitAnd (bitXor w (q .comp)) (q .mor))
 unfoldable pub summed : Changes → ℕ → ℕ
 summed q w = bitXor ((bitAnd w (q .low) + q .rest) % 2 ^ 64) (bitAnd (bitXor w (q .addend)) (q .tops))
 
+-- the bits that an add asks to flip
+unfoldable pub asked : Changes → ℕ → ℕ
+asked q w = bitXor (bitXor ((bitAnd w (q .low) + q .rest) % 2 ^ 64) (bitAnd w (q .low))) (bitAnd (q .addend) (q .tops))
+
+-- written and added to: the bits flip that either asks to
+unfoldable pub both : Changes → ℕ → ℕ
+both q w = bitXor w (bitOr (bitXor w (written q w)) (asked q w))
+
 -- a word that is written or not, added to or not
 unfoldable pub new : Bool → Bool → Changes → ℕ → ℕ
 new false false q w = w
 new false true q w = summed q w
 new true false q w = written q w
-new true true q w = bitOr (written q w) (summed q w)
+new true true q w = both q w
 
 -- 1 where the word is chosen
 unfoldable pub choice : Tags → ℕ → ℕ

@@ -11,6 +11,7 @@ ghost use Rattle.laws.specs.Lists.{count};
 ghost use Rattle.sweeps.specs.Along.{along, each, many};
 ghost use Rattle.sweeps.specs.Rules.{flag, chosen, hit, mark, found, answer, choice, gated, changed, takes, flipped};
 use machine::Response;
+use word::both_of;
 use word::choice_of;
 pub use word::chosen_of;
 use word::flag_of;
@@ -174,7 +175,7 @@ fn multiadd(q: Changes, g: &[u8; 64], words: &mut [u64])
     }
 }
 
-// Second half, multiwrite and multiadd: "at each bit, the OR of the two results".
+// Second half, multiwrite and multiadd.
 fn multiboth(q: Changes, g: &[u8; 64], words: &mut [u64])
     requires { ⌜ (length (now words) ≤ 64) × (length (now g) ≡ 64) ⌝ }
     ensures { λ n. ⌜ now (words .exit) ≡ along (gated true true q) (now (g .entry)) (now (words .entry)) ⌝ }
@@ -182,7 +183,7 @@ fn multiboth(q: Changes, g: &[u8; 64], words: &mut [u64])
     let mut i: usize = 0;
     while i < words.len() {
         let w = words[i];
-        words[i] = kept(g[i] == 1, written_of(q, w) | summed_of(q, w), w);
+        words[i] = kept(g[i] == 1, both_of(q, w), w);
         i += 1;
     }
 }

@@ -6,7 +6,7 @@ use machine::Response;
 ghost use mathlib.Core.Path.{_≡_};
 ghost use Prim.Native.Nat.{_-_};
 ghost use Rattle.laws.specs.Bits.{pick};
-ghost use Rattle.sweeps.specs.Rules.{test, flag, chosen, hit, put, written, summed, new, choice, flipped};
+ghost use Rattle.sweeps.specs.Rules.{test, flag, chosen, hit, put, written, summed, asked, both, new, choice, flipped};
 
 pub(crate) fn test_of(m: Masks, w: u64) -> u64
     ensures { λ r. ⌜ r ≡ test m w ⌝ }
@@ -59,6 +59,21 @@ pub(crate) fn summed_of(q: Changes, w: u64) -> u64
     low ^ ((w ^ q.addend) & q.tops)
 }
 
+// The sum against the word, bit by bit: in fewer operations than by the sum itself.
+pub(crate) fn asked_of(q: Changes, w: u64) -> u64
+    ensures { λ r. ⌜ r ≡ asked q w ⌝ }
+{
+    let low = w & q.low;
+    std::num::wrapping_add_u64(low, q.rest) ^ low ^ (q.addend & q.tops)
+}
+
+// "a bit flips if either asks"
+pub(crate) fn both_of(q: Changes, w: u64) -> u64
+    ensures { λ r. ⌜ r ≡ both q w ⌝ }
+{
+    w ^ ((w ^ written_of(q, w)) | asked_of(q, w))
+}
+
 pub(crate) fn kept(h: bool, x: u64, y: u64) -> u64
     ensures { λ r. ⌜ r ≡ pick h x y ⌝ }
 {
@@ -75,11 +90,7 @@ pub fn new_word(q: Changes, write: bool, add: bool, w: u64) -> u64
     ensures { λ r. ⌜ r ≡ new write add q w ⌝ }
 {
     if write {
-        if add {
-            written_of(q, w) | summed_of(q, w)
-        } else {
-            written_of(q, w)
-        }
+        if add { both_of(q, w) } else { written_of(q, w) }
     } else {
         if add { summed_of(q, w) } else { w }
     }

@@ -41,7 +41,9 @@ struct Change {
     after: u64,
 }
 
-/// Figures 4 to 8. The registers are COMP, SDR and MOR.
+/// Figures 4 to 8. Figure 7 as request b of document 02 has it: the write asks
+/// for 09, the add for 04, and 35 with 0D flipped is 38. The registers are COMP,
+/// SDR and MOR.
 const CHANGES: [Change; 8] = [
     Change {
         name: "figure 4, SDR 88",
@@ -97,7 +99,7 @@ const CHANGES: [Change; 8] = [
         word: 0x35,
         registers: [0x0C, 0x88, 0x0F],
         lines: WRITE | ADD,
-        after: 0x3D,
+        after: 0x38,
     },
     Change {
         name: "figure 8",

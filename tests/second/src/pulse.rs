@@ -96,14 +96,19 @@ pub fn apply(way: &Way, machine: &mut Machine, panel: &Panel, lines: Lines) -> A
     answer
 }
 
-/// "Two writes on one word write once; two adds add once. A write and an add
-/// on one word give, at each bit, the OR of the two results."
+/// "Two writes on one word write once; two adds add once." 02 b: "Where a write
+/// and an add meet on one word, each asks for certain bits to flip, and a bit
+/// flips if either asks." Each asks for the bits that it alone would change.
 fn word_after(way: &Way, panel: &Panel, width: u8, word: u64, writes: bool, adds: bool) -> u64 {
     match (writes, adds) {
         (false, false) => word,
         (true, false) => (way.written)(word, panel, width),
         (false, true) => (way.added)(word, panel, width),
-        (true, true) => (way.written)(word, panel, width) | (way.added)(word, panel, width),
+        (true, true) => {
+            let write_asks = word ^ (way.written)(word, panel, width);
+            let add_asks = word ^ (way.added)(word, panel, width);
+            word ^ (write_asks | add_asks)
+        }
     }
 }
 

@@ -17,7 +17,8 @@ impl Writer {
         match self.rng.below(122) {
             0..=6 => self.new_machine(),
             7..=10 => self.fill(),
-            11..=25 => self.some_pulses(),
+            11..=24 => self.some_pulses(),
+            25 => self.wrapping_twin(),
             26..=36 => self.twin(),
             37 => self.survey(),
             38..=40 => self.two_resolutions(),
@@ -232,6 +233,35 @@ impl Writer {
         if compose(&self.model.machine, &None).len() > 400 && !self.rng.once_in(8) {
             return;
         }
+        self.on_both(&lines);
+    }
+
+    /// The same for a write and an add that meet where a 64-bit syllable wraps,
+    /// which hardly comes by chance. In a new machine's panel SDR and care are 0:
+    /// one syllable, and all words selected.
+    pub fn wrapping_twin(&mut self) {
+        let n = self.rng.between(1, 4);
+        self.say(format!("machine 64 {n}"));
+        let comp = values::number(&mut self.rng, 64, &[1, u64::MAX]);
+        let mor = values::number(&mut self.rng, 64, &[u64::MAX]);
+        self.load("comp", comp);
+        self.load("mor", mor);
+        let addend = comp & mor;
+        let least = addend.wrapping_neg();
+        for index in 0..n {
+            let between = least.wrapping_add(self.rng.below(addend));
+            let word = self.rng.pick(&[least, between, u64::MAX]);
+            self.say(format!("word {index} {word:X}"));
+        }
+        let address = self.rng.below(n);
+        self.say(format!("load address {address}"));
+        let write = self.rng.pick(&["write", "multiwrite"]);
+        let add = self.rng.pick(&["add", "multiadd"]);
+        self.on_both(&format!("{write} {add}"));
+    }
+
+    /// These lines on both machines, from the same image.
+    fn on_both(&mut self, lines: &str) {
         if self.model.machine.check().is_err() {
             self.say("# same 1 2");
             self.say(format!("pulse {lines}"));

@@ -11,6 +11,7 @@ use std::collections::BTreeMap;
 mod arrayfacts;
 mod arrayneeds;
 mod facts;
+mod meetings;
 mod needed;
 mod reasons;
 

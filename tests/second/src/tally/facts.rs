@@ -103,6 +103,8 @@ impl Facts {
             }
             if lines.add || lines.multiadd {
                 self.add_facts(console);
+                let pulse = format!("{way}: {}", raised(lines));
+                self.meeting_facts(&pulse, console, lines);
             }
         } else if lines.read || lines.write || lines.add {
             self.far_address(console, &numbers);

@@ -1,6 +1,7 @@
 //! What the random scripts of the gate have to bring out, and how often at
 //! least, so that no kind of command, refusal or job is there in name only.
 
+use super::meetings::{ASKED, MEETINGS};
 use processor::panel::LINE_NAMES;
 
 /// Least counts: of what is sought out, and of what comes now and then.
@@ -200,7 +201,8 @@ impl Needs {
     }
 
     /// Pairs of an addressed and a selected line where both meet on a word and
-    /// where they don't, and every two numbers at once.
+    /// where they don't; what a write and an add ask for where they meet, on
+    /// both machines; and every two numbers at once.
     fn meetings(&mut self) {
         for lines in [
             "write+multiwrite",
@@ -211,6 +213,14 @@ impl Needs {
         ] {
             self.add(SOMETIMES, format!("addressed word selected: {lines}"));
             self.add(SOMETIMES, format!("addressed word not selected: {lines}"));
+        }
+        for way in ["pulse", "cells"] {
+            for lines in MEETINGS {
+                self.add(OFTEN, format!("{way}: {lines} meet"));
+                for what in ASKED {
+                    self.add(SOMETIMES, format!("{way}: {lines} meet: {what}"));
+                }
+            }
         }
         for first in 1..=7 {
             for other in first + 1..=7 {

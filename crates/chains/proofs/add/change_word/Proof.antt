@@ -18,8 +18,8 @@ returns : tie.Need-returns
 unfolding written
 returns c =
     let a = c .before .before .before .before .before .args in
-    c .merge2 .ensures .0 ∙ words.both-merged (a .n) _ _
-    ∙ ap₂ (bothOf (a .n)) (c .before .before .before .before .merge .ensures .0) (c .before .before .before .add-word .ensures)
+    c .merge2 .ensures .0 ∙ words.both-merged (a .n) (a .w) _ _
+    ∙ ap₂ (bothOf (a .n) (a .w)) (c .before .before .before .before .merge .ensures .0) (c .before .before .before .add-word .ensures)
     ∙ rw (c .before .before .if1 .taken, c .before .if2 .taken) refl
 
 returns-2 : tie.Need-returns-2

@@ -7,15 +7,15 @@ use Rattle.sweeps.proofs.word.new_word.Tie as tie
 
 returns : tie.Need-returns
 unfolding new
-returns c = rw (c .before .before .before .if1 .taken, c .before .before .if2 .taken, c .before .written-of .ensures, c .summed-of .ensures) refl
+returns c = rw (c .before .before .if1 .taken, c .before .if2 .taken) (c .both-of .ensures)
 
 returns-2 : tie.Need-returns-2
 unfolding new
-returns-2 c = rw (c .before .before .if1 .taken, c .before .if2 .left) (c .written-of2 .ensures)
+returns-2 c = rw (c .before .before .if1 .taken, c .before .if2 .left) (c .written-of .ensures)
 
 returns-3 : tie.Need-returns-3
 unfolding new
-returns-3 c = rw (c .before .before .if1 .left, c .before .if3 .taken) (c .summed-of2 .ensures)
+returns-3 c = rw (c .before .before .if1 .left, c .before .if3 .taken) (c .summed-of .ensures)
 
 returns-4 : tie.Need-returns-4
 unfolding new
@@ -25,7 +25,6 @@ pub new-word-spec : {M : Type 1} → statement M
 new-word-spec =
     tie.close
     (tie.spec
-    (λ c κs. search needs)
     (λ c κs. search needs)
     (λ c κs. search needs)
     (λ c κs. search needs)
