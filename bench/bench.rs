@@ -1,7 +1,8 @@
 // The benchmark: whole calls of both proved machines beside loops a programmer would write by hand, over the same
 // words. Everything is compared as a ratio within one run; nothing here is asserted about time.
 // Usage: bench (the tables), bench agree (only that all variants give the same, on random panels), bench names (of the
-// variants), bench count NAME WIDTH CALLS (that many calls and nothing else, for an instruction counter).
+// variants), bench count NAME WIDTH CALLS [least] (that many calls and nothing else, for an instruction counter, with
+// `least` on the panel of that column).
 mod data;
 mod hand;
 mod opaque;
@@ -9,7 +10,7 @@ mod proved;
 #[cfg(sqlite)]
 mod sqlite;
 
-use data::{any_panel, any_words, panel, words, Panel, Random, Select, N};
+use data::{any_panel, any_words, least_panel, most_panel, panel, words, Panel, Random, Select, N};
 use opaque::black_box;
 use std::env;
 use std::time::Instant;
@@ -110,8 +111,7 @@ struct Column {
     times: Vec<Vec<f64>>,
 }
 
-fn column<const K: usize>(random: &mut Random, width: u32, select: Select, heading: &str) -> Column {
-    let p = panel(random, width, K as u32);
+fn column<const K: usize>(p: Panel, random: &mut Random, select: Select, heading: &str) -> Column {
     let sets: Vec<(Vec<u64>, Vec<u8>)> = (0..SETS).map(|_| words(random, &p, select)).collect();
     let mut rows: Vec<_> = sets.iter().map(|(w, r)| hand::records::<K>(&p, w, r)).collect();
     let codes = hand::codes::<K>(&p);
@@ -178,26 +178,28 @@ const RATIOS: [(&str, &str); 18] = [
     ("wide search+multiadd", "hand search, branching"),
 ];
 
-// The first five columns by number of syllables, the others by selection with 8 syllables.
-fn columns<const TOP: usize>(random: &mut Random, width: u32) -> [Column; 8] {
+// The first five columns by number of syllables, the next three by selection with 8 syllables, the last two with SC3.
+fn columns<const TOP: usize>(random: &mut Random, width: u32) -> [Column; 10] {
     [
-        column::<1>(random, width, Select::Most, "1"),
-        column::<4>(random, width, Select::Most, "4"),
-        column::<8>(random, width, Select::Most, "8"),
-        column::<16>(random, width, Select::Most, "16"),
-        column::<TOP>(random, width, Select::Most, &TOP.to_string()),
-        column::<8>(random, width, Select::All, "all"),
-        column::<8>(random, width, Select::Runs, "runs"),
-        column::<8>(random, width, Select::Few, "few"),
+        column::<1>(panel(random, width, 1), random, Select::Most, "1"),
+        column::<4>(panel(random, width, 4), random, Select::Most, "4"),
+        column::<8>(panel(random, width, 8), random, Select::Most, "8"),
+        column::<16>(panel(random, width, 16), random, Select::Most, "16"),
+        column::<TOP>(panel(random, width, TOP as u32), random, Select::Most, &TOP.to_string()),
+        column::<8>(panel(random, width, 8), random, Select::All, "all"),
+        column::<8>(panel(random, width, 8), random, Select::Runs, "runs"),
+        column::<8>(panel(random, width, 8), random, Select::Few, "few"),
+        column::<8>(least_panel(random, width, 8), random, Select::Most, "least"),
+        column::<1>(most_panel(random, width), random, Select::Most, "most"),
     ]
 }
 
-fn line(name: &str, columns: &[Column; 8], value: impl Fn(&Column) -> String) {
+fn line(name: &str, columns: &[Column; 10], value: impl Fn(&Column) -> String) {
     let values: String = columns.iter().map(|c| format!("{:>8}", value(c))).collect();
     println!("{name:54}{values}");
 }
 
-fn print(columns: &[Column; 8]) {
+fn print(columns: &[Column; 10]) {
     line(&format!("N = {}", columns[0].panel.width), columns, |c| c.heading.clone());
     for name in names() {
         line(name, columns, |c| format!("{:.0}", time(c, name)));
@@ -225,7 +227,8 @@ fn tables(random: &mut Random) {
         }
     }
     println!("n = {N}, nanoseconds of a whole call, lower quartiles of {ROUNDS} rounds, by number of syllables, most words");
-    println!("selected, at random; and with 8 syllables, all words selected, half of them in runs, few in one run:");
+    println!("selected, at random; with 8 syllables, all words selected, half of them in runs, few in one run; and, again with most");
+    println!("selected, 8 syllables with SC3 set wherever they compare (least), and one that asks for at most (most):");
     for t in &tables {
         print(t);
     }
@@ -245,8 +248,9 @@ fn main() {
         }
         ["agree"] => println!("{} passed, 0 failed", agree(&mut random)),
         ["names"] => variants().iter().for_each(|v| println!("{}", v.0)),
-        ["count", name, width, calls] => {
-            let p = panel(&mut random, width.parse().unwrap(), 8);
+        ["count", name, width, calls] | ["count", name, width, calls, "least"] => {
+            let make = if args.len() == 5 { least_panel } else { panel };
+            let p = make(&mut random, width.parse().unwrap(), 8);
             let (mut w, mut r) = words(&mut random, &p, Select::Most);
             let call = variants().iter().find(|v| v.0 == name).unwrap().1;
             for _ in 0..calls.parse().unwrap() {
@@ -254,7 +258,7 @@ fn main() {
             }
         }
         _ => {
-            eprintln!("usage: bench, bench agree, bench names, bench count NAME WIDTH CALLS");
+            eprintln!("usage: bench, bench agree, bench names, bench count NAME WIDTH CALLS [least]");
             std::process::exit(2);
         }
     }

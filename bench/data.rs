@@ -8,6 +8,7 @@ pub struct Panel {
     pub sdr: u64,
     pub sc1: u64,
     pub sc2: u64,
+    pub sc3: u64,
     pub mor: u64,
     pub key: u8,
     pub care: u8,
@@ -47,7 +48,7 @@ pub enum Select {
     Few,
 }
 
-// k syllables, equal as far as the width allows, with the four codes in turn.
+// k syllables, equal as far as the width allows, with the four codes in turn; SC3 is 0.
 pub fn panel(random: &mut Random, width: u32, k: u32) -> Panel {
     let mut p = Panel {
         width,
@@ -55,6 +56,7 @@ pub fn panel(random: &mut Random, width: u32, k: u32) -> Panel {
         sdr: 0,
         sc1: 0,
         sc2: 0,
+        sc3: 0,
         mor: ones(width),
         key: 0x10,
         care: 0x10,
@@ -73,6 +75,18 @@ pub fn panel(random: &mut Random, width: u32, k: u32) -> Panel {
         }
     }
     p
+}
+
+// The same with SC3 over every comparing syllable, at least and at most in turn.
+pub fn least_panel(random: &mut Random, width: u32, k: u32) -> Panel {
+    let p = panel(random, width, k);
+    Panel { sc3: p.sc1, ..p }
+}
+
+// One syllable, at most.
+pub fn most_panel(random: &mut Random, width: u32) -> Panel {
+    let all = ones(width);
+    Panel { sc1: all, sc2: all, sc3: all, ..panel(random, width, 1) }
 }
 
 // Words of which half, at random, agree with COMP wherever it is to be met exactly. Where a branch prediction is to learn
@@ -105,7 +119,7 @@ pub fn words(random: &mut Random, p: &Panel, select: Select) -> (Vec<u64>, Vec<u
 
 // ---- for agreement
 
-// A panel of any syllables, any bits cared for, with one code in each syllable.
+// A panel of any syllables, any bits cared for, with one code in each syllable and, where it compares, one setting of SC3.
 pub fn any_panel(random: &mut Random, width: u32) -> Panel {
     let mut p = Panel {
         width,
@@ -113,6 +127,7 @@ pub fn any_panel(random: &mut Random, width: u32) -> Panel {
         sdr: random.next() & random.next() & random.next() & ones(width),
         sc1: 0,
         sc2: 0,
+        sc3: 0,
         mor: random.next() & ones(width),
         key: random.next() as u8,
         care: random.next() as u8 & 3,
@@ -124,6 +139,7 @@ pub fn any_panel(random: &mut Random, width: u32) -> Panel {
         if care >> i & 1 == 1 {
             p.sc1 |= (code >> 1 & 1) << i;
             p.sc2 |= (code & 1) << i;
+            p.sc3 |= (code >> 1 & code >> 2 & 1) << i;
         }
         if p.sdr >> i & 1 == 1 {
             code = random.next();

@@ -14,6 +14,14 @@ fn selected(p: &Panel, r: u8) -> bool {
 
 // ---- whether a word satisfies the panel, in two ways
 
+// At least is not smaller, at most is not larger: under SC3 the two codes are swapped and the contrary is wanted at the
+// syllable's top, which is worked out once, before the loop.
+
+// A one at the top of each syllable that is not 0.
+fn filled(t: u64, q: u64) -> u64 {
+    (q | (q & !t).wrapping_add(!t)) & t
+}
+
 // Exact bits and comparisons apart, as one would write it down.
 struct Plain {
     t: u64,
@@ -22,17 +30,20 @@ struct Plain {
     exact: u64,
     smaller: u64,
     compare: u64,
+    want: u64,
 }
 
 fn plain(p: &Panel) -> Plain {
     let (t, care) = (tops(p), p.sc1 | p.sc2);
+    let compare = filled(t, p.sc1);
     Plain {
         t,
         care,
         comp: p.comp & care,
         exact: p.sc2 & !p.sc1,
-        smaller: p.sc1 & p.sc2,
-        compare: above(t, p.sc1, 0),
+        smaller: p.sc1 & (p.sc2 ^ p.sc3),
+        compare,
+        want: compare ^ filled(t, p.sc3),
     }
 }
 
@@ -51,33 +62,37 @@ fn exact(m: &Plain, w: u64) -> bool {
 #[inline(always)]
 fn compared(m: &Plain, w: u64) -> bool {
     let e = (w & m.care ^ m.comp) & m.smaller;
-    above(m.t, w & m.care ^ e, m.comp ^ e) & m.compare == m.compare
+    above(m.t, w & m.care ^ e, m.comp ^ e) & m.compare == m.want
 }
 
 // All three codes as one comparison, worked out once: the cared bits of a word, turned by `flip`, are held against
-// `limit` by the carry out of each syllable; `need` are the tops of the syllables that ask for anything.
+// `limit` by the carry out of each syllable; `need` are the tops of the syllables that ask for anything. There the carry
+// out is the limit's bit, flipped where the word's bit and the carry in both differ from it; `want` says where they are to.
 struct Masks {
     t: u64,
     care: u64,
     flip: u64,
     limit: u64,
     need: u64,
+    want: u64,
 }
 
 fn masks(p: &Panel) -> Masks {
     let t = tops(p);
-    let (smaller, care) = (p.sc1 & p.sc2, p.sc1 | p.sc2);
-    let (exact, larger) = (p.sc2 & !smaller, p.sc1 & !smaller);
+    let (smaller, care) = (p.sc1 & (p.sc2 ^ p.sc3), p.sc1 | p.sc2);
+    let (exact, larger) = (p.sc2 & !p.sc1, p.sc1 & !smaller);
     // exact less one in each syllable: only its lowest cared bit is left after the AND with the complement
     let less = (exact & !t).wrapping_add(!t) ^ ((exact ^ u64::MAX) & t);
     let lowest = exact & !less;
-    let filled = (care | (care & !t).wrapping_add(!t)) & t;
+    let limit = lowest ^ ((p.comp & p.sc1) ^ larger);
+    let need = filled(t, care);
     Masks {
         t,
         care,
         flip: !(larger ^ (p.comp & exact)),
-        limit: lowest ^ ((p.comp & p.sc1) ^ larger),
-        need: filled,
+        limit,
+        need,
+        want: (need & !limit) ^ filled(t, p.sc3),
     }
 }
 
@@ -85,7 +100,7 @@ fn masks(p: &Panel) -> Masks {
 fn satisfied(m: &Masks, w: u64) -> bool {
     let u = (w & m.care) ^ m.flip;
     let low = (m.limit & !m.t).wrapping_add(u & !m.t);
-    m.need & !((m.limit & u) | ((m.limit | u) & low)) == 0
+    (m.limit ^ u) & (m.limit ^ low) & m.need == m.want
 }
 
 pub fn satisfies(p: &Panel, w: u64) -> bool {
@@ -186,7 +201,8 @@ pub fn syllables(p: &Panel) -> Vec<Syllable> {
             let mask = ones(top + 1 - low) & (p.sc1 | p.sc2) >> low;
             let (a, b) = (p.sc1 >> low & mask, p.sc2 >> low & mask);
             let code = if mask == 0 { 0 } else if a == 0 { 1 } else if b == 0 { 2 } else { 3 };
-            all.push(Syllable { low, mask, code, comp: p.comp >> low & mask });
+            let equal = if p.sc3 >> low & mask == 0 { 0 } else { 4 };
+            all.push(Syllable { low, mask, code: code | equal, comp: p.comp >> low & mask });
             low = top + 1;
         }
     }
@@ -199,7 +215,9 @@ fn asks(code: u8, w: u64, c: u64) -> bool {
         0 => true,
         1 => w == c,
         2 => w > c,
-        _ => w < c,
+        3 => w < c,
+        6 => w >= c,
+        _ => w <= c,
     }
 }
 

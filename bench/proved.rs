@@ -23,7 +23,7 @@ const MULTIADD: u8 = 32;
 
 // The count, with a refusal's number above it.
 fn called(pulse: Pulse, p: &Panel, lines: u8, w: &mut [u64], r: &mut [u8]) -> u64 {
-    let panel = [p.comp, p.sdr, p.sc1, p.sc2, p.mor, p.key as u64, p.care as u64, p.target as u64, 0];
+    let panel = [p.comp, p.sdr, p.sc1, p.sc2, p.mor, p.key as u64, p.care as u64, p.target as u64, 0, p.sc3];
     let mut answer = [0; 4];
     let number = unsafe {
         pulse(

@@ -43,9 +43,11 @@ enum dushvaneth_number {
     DUSHVANETH_REFUSED_WIDTH = 2,
     /* A word has a one outside the width. The answer also says the lowest such word. */
     DUSHVANETH_REFUSED_WORD_TOO_WIDE = 3,
-    /* COMP, SDR, SC1, SC2 or MOR has a one outside the width, whichever lines are raised. Also: key, care or target above 255. */
+    /* COMP, SDR, SC1, SC2, SC3 or MOR has a one outside the width, whichever lines are raised. Also: key, care or target above
+     * 255. */
     DUSHVANETH_REFUSED_PANEL_TOO_WIDE = 4,
-    /* A search is asked for, and one syllable carries two different codes, don't-care bits aside. */
+    /* A search is asked for, and in one syllable the bits that are no don't-care bits carry two different codes or two different
+     * settings of SC3, or SC3 has a one over an exact or don't-care bit. */
     DUSHVANETH_REFUSED_TWO_CODES = 5,
     /* No line is raised, three or more are, or complement is raised with another. Also: bit 7 of the line byte. */
     DUSHVANETH_REFUSED_WRONG_LINES = 6,
@@ -79,7 +81,7 @@ enum dushvaneth_number {
 enum dushvaneth_register {
     DUSHVANETH_COMP = 0,    /* the comparand: what to search for, write or add */
     DUSHVANETH_SDR = 1,     /* the top bits of the syllables */
-    DUSHVANETH_SC1 = 2,     /* with SC2 the code of each bit, enum dushvaneth_code: SC1 has its 2, SC2 its 1 */
+    DUSHVANETH_SC1 = 2,     /* with SC2 and SC3 what is asked of each bit, enum dushvaneth_code: SC1 has its 2, SC2 its 1, SC3 its 4 */
     DUSHVANETH_SC2 = 3,
     DUSHVANETH_MOR = 4,     /* the bits that a write writes, and the bits of COMP that an add adds. A carry goes on above them, up to the
                              * top bit of its syllable: cut the syllable off by SDR */
@@ -88,12 +90,21 @@ enum dushvaneth_register {
     DUSHVANETH_TARGET = 7,  /* the response bits that a search makes 1 in matching words and 0 in all others, selected or not, and that a
                              * complement flips in selected words */
     DUSHVANETH_ADDRESS = 8, /* the word that read, write and add go to */
-    DUSHVANETH_PANEL = 9    /* how many registers there are */
+    DUSHVANETH_SC3 = 9,     /* a one over each bit of a larger or smaller syllable that is no don't-care bit: at least, at most */
+    DUSHVANETH_PANEL = 10   /* how many registers there are */
 };
 
-/* What a search asks of a bit. In a syllable all bits carry one code, don't-care bits aside, which are taken as 0: the word's number there
- * must be equal to, larger than or smaller than COMP's. A word matches if it is selected and all its syllables are satisfied. */
-enum dushvaneth_code { DUSHVANETH_DONT_CARE = 0, DUSHVANETH_EXACT = 1, DUSHVANETH_LARGER = 2, DUSHVANETH_SMALLER = 3 };
+/* What a search asks of a bit. In a syllable all bits are asked the same, don't-care bits aside, which are taken as 0: the word's number
+ * there must be equal to COMP's, larger, smaller, at least COMP's or at most. A word matches if it is selected and all its syllables are
+ * satisfied. */
+enum dushvaneth_code {
+    DUSHVANETH_DONT_CARE = 0,
+    DUSHVANETH_EXACT = 1,
+    DUSHVANETH_LARGER = 2,
+    DUSHVANETH_SMALLER = 3,
+    DUSHVANETH_AT_LEAST = 6,
+    DUSHVANETH_AT_MOST = 7
+};
 
 /* The line byte of a pulse: one line or a pair of the first six, or complement alone. All results are worked out from the machine before
  * the pulse: where search and multiwrite are raised together, the words written are those that were selected before. Two writes on one word
@@ -327,9 +338,9 @@ static inline void dushvaneth_blank(uint64_t panel[DUSHVANETH_PANEL])
     }
 }
 
-/* Asks a search for the syllable of so many bits from bit low up: the code, DUSHVANETH_EXACT, _LARGER or _SMALLER, and what the syllable is
- * held against. It is cut off from the bits above and below. Of several that are asked for a word has to satisfy all. A syllable that is no
- * part of 64 bits is not asked for. */
+/* Asks a search for the syllable of so many bits from bit low up: DUSHVANETH_EXACT, _LARGER, _SMALLER, _AT_LEAST or _AT_MOST, and what the
+ * syllable is held against. DUSHVANETH_DONT_CARE takes it back. It is cut off from the bits above and below; a cut that an earlier call made
+ * within it stays. Of several that are asked for a word has to satisfy all. A syllable that is no part of 64 bits is not asked for. */
 static inline void dushvaneth_ask(uint64_t panel[DUSHVANETH_PANEL], unsigned low, unsigned width, unsigned code, uint64_t value)
 {
     uint64_t bits;
@@ -341,6 +352,7 @@ static inline void dushvaneth_ask(uint64_t panel[DUSHVANETH_PANEL], unsigned low
     panel[DUSHVANETH_COMP] = (panel[DUSHVANETH_COMP] & ~bits) | (value << low & bits);
     panel[DUSHVANETH_SC1] = (panel[DUSHVANETH_SC1] & ~bits) | (code & 2 ? bits : 0);
     panel[DUSHVANETH_SC2] = (panel[DUSHVANETH_SC2] & ~bits) | (code & 1 ? bits : 0);
+    panel[DUSHVANETH_SC3] = (panel[DUSHVANETH_SC3] & ~bits) | (code & 4 ? bits : 0);
 }
 
 /* How many words the image says that it has, 0 if it is too short to say: what the two buffers of a reading must hold. */

@@ -3,7 +3,6 @@
 static int fault;
 
 #define faulty_load dushvaneth_load
-#define faulty_cells_pulse dushvaneth_cells_pulse
 #define faulty_network dushvaneth_network
 #define faulty_total dushvaneth_total
 #define faulty_array_cells dushvaneth_array_cells
@@ -18,7 +17,8 @@ static void keep(uint8_t *was, const uint8_t *job, size_t j)
     }
 }
 
-/* 1: an address is off by one. 2: a refusal changes a response. 3: the width's low byte is what is looked at. */
+/* 1: an address is off by one. 2: a refusal changes a response. 3: the width's low byte is what is looked at. 15: a one of SC3 over a don't-care
+ * bit is passed over. */
 static uint32_t faulty_wide_pulse(uint64_t *words, size_t n, dushvaneth_response *responses, size_t m, uint32_t width,
                                   const uint64_t *panel, size_t p, uint8_t lines, uint64_t *answer, size_t a)
 {
@@ -29,11 +29,29 @@ static uint32_t faulty_wide_pulse(uint64_t *words, size_t n, dushvaneth_response
         moved[DUSHVANETH_ADDRESS]++;
         panel = moved;
     }
+    if (fault == 15 && p == DUSHVANETH_PANEL && width >= 1 && width <= 64) {
+        memcpy(moved, panel, sizeof moved);
+        moved[DUSHVANETH_SC3] &= moved[DUSHVANETH_SC1] | moved[DUSHVANETH_SC2] | ~(UINT64_MAX >> (64 - width)); /* 4 stays */
+        panel = moved;
+    }
     r = dushvaneth_wide_pulse(words, n, responses, m, fault == 3 ? width & 255 : width, panel, p, lines, answer, a);
     if (fault == 2 && r != 0 && m > 0) {
         responses[m - 1] ^= 1;
     }
     return r;
+}
+
+/* 16: at least is taken as larger, in a call that is accepted: a call with room for no answer is 10 then, and changes nothing. */
+static uint32_t faulty_cells_pulse(uint64_t *words, size_t n, dushvaneth_response *responses, size_t m, uint32_t width,
+                                   const uint64_t *panel, size_t p, uint8_t lines, uint64_t *answer, size_t a)
+{
+    uint64_t moved[DUSHVANETH_PANEL];
+    if (fault == 16 && dushvaneth_cells_pulse(words, n, responses, m, width, panel, p, lines, NULL, 0) == 10) {
+        memcpy(moved, panel, sizeof moved);
+        moved[DUSHVANETH_SC3] &= moved[DUSHVANETH_SC2];
+        panel = moved;
+    }
+    return dushvaneth_cells_pulse(words, n, responses, m, width, panel, p, lines, answer, a);
 }
 
 /* 4: an answer that is too short is told as far as it goes. */
@@ -92,11 +110,12 @@ static uint32_t faulty_start(const uint64_t *words, size_t n, const dushvaneth_r
     return r;
 }
 
-/* 9: the record isn't written. 10: the count is that of the words. */
+/* 9: the record isn't written. 10: the count is that of the words. 17: SC3 isn't told. */
 static uint32_t faulty_step(uint64_t *words, size_t n, dushvaneth_response *responses, size_t m, uint32_t width, uint8_t *job, size_t j,
                             uint64_t *answer, size_t a)
 {
     uint8_t was[DUSHVANETH_RECORD];
+    uint64_t sc3 = a >= DUSHVANETH_STEP_ANSWER ? answer[DUSHVANETH_STEP_PANEL + DUSHVANETH_SC3] : 0;
     uint32_t r;
     keep(was, job, j);
     r = dushvaneth_step(words, n, responses, m, width, job, j, answer, a);
@@ -105,6 +124,9 @@ static uint32_t faulty_step(uint64_t *words, size_t n, dushvaneth_response *resp
     }
     if (fault == 10 && r == 0) {
         answer[DUSHVANETH_STEP_COUNT] = n;
+    }
+    if (fault == 17 && r == 0) {
+        answer[DUSHVANETH_STEP_PANEL + DUSHVANETH_SC3] = sc3;
     }
     return r;
 }
@@ -149,4 +171,4 @@ static uint32_t faulty_array_wide(uint64_t *ones, size_t n, uint64_t *xs, size_t
     return r;
 }
 
-enum { faults = 14 };
+enum { faults = 17 };

@@ -34,27 +34,19 @@ static uint32_t any_width(void)
     return once_in(4) ? 64 : (uint32_t)(1 + below(64));
 }
 
-/* One code in each syllable but in every eighth panel, COMP mostly near a word, the address now and then past the words. */
+/* COMP mostly a word or near one, now and then one syllable alone, the address now and then past the words. */
 static void new_panel(void)
 {
-    uint64_t *p = host.panel, bits = ones(host.width), care = any() | any(), code = any();
+    uint64_t *p = host.panel, bits = ones(host.width);
     uint64_t near = host.words[below(host.n)];
-    bool mixed = once_in(8);
     memset(p, 0, sizeof host.panel);
-    p[DUSHVANETH_COMP] = once_in(3) ? any() & bits : near ^ (any() & any() & any() & any() & bits);
-    p[DUSHVANETH_SDR] = any() & any() & any() & bits;
+    p[DUSHVANETH_COMP] = once_in(3) ? any() & bits : once_in(2) ? near : near ^ (any() & any() & any() & any() & bits);
+    p[DUSHVANETH_SDR] = once_in(6) ? 0 : any() & any() & any() & bits;
     p[DUSHVANETH_MOR] = any() & bits;
-    for (uint32_t i = 0; i < host.width; i++) {
-        p[DUSHVANETH_SC1] |= (care & code >> 1 & 1) << i;
-        p[DUSHVANETH_SC2] |= (care & code & 1) << i;
-        care = care >> 1 | care << 63;
-        if (mixed || (p[DUSHVANETH_SDR] >> i & 1) == 1) {
-            code = any();
-        }
-    }
+    new_codes(p, bits);
     p[DUSHVANETH_KEY] = any() & 255;
     p[DUSHVANETH_CARE] = few_bits();
-    p[DUSHVANETH_TARGET] = few_bits();
+    p[DUSHVANETH_TARGET] = few_bits() | (once_in(4) ? 0 : 1u << host.x);
     p[DUSHVANETH_ADDRESS] = once_in(10) ? host.n + (any() & any() & any()) : below(host.n);
 }
 
@@ -98,26 +90,36 @@ static void machine(int which, bool words, bool responses)
     give(host.width);
 }
 
+/* What a register may hold. SC3 is SC1 half of the time: at least and at most then for larger and smaller. */
+static uint64_t any_value(uint8_t r)
+{
+    if (r == DUSHVANETH_SC3 && once_in(2)) {
+        return host.panel[DUSHVANETH_SC1];
+    }
+    return r < DUSHVANETH_KEY || r == DUSHVANETH_SC3 ? any() & ones(host.width) : r < DUSHVANETH_ADDRESS ? any() & 255 : below(host.n);
+}
+
 static void load(void)
 {
     uint8_t r = (uint8_t)below(DUSHVANETH_PANEL);
     begin(at_load);
     lend(8, host.panel, DUSHVANETH_PANEL, host.panel);
     give(r);
-    give(r < DUSHVANETH_KEY ? any() & ones(host.width) : r < DUSHVANETH_ADDRESS ? any() & 255 : below(host.n));
+    give(any_value(r));
     made(false);
 }
 
 static void pulse(void)
 {
-    uint64_t first = below(6);
-    if (once_in(3)) {
+    uint64_t first = once_in(2) ? 0 : below(6); /* a search, half of the time */
+    if (once_in(2)) {
         new_panel();
     }
     machine(once_in(2) || (host.n > 100 && !once_in(9)) ? at_wide_pulse : at_cells_pulse, true, true);
     lend(8, host.panel, DUSHVANETH_PANEL, NULL);
     give(once_in(8) ? DUSHVANETH_COMPLEMENT : 1u << first | (once_in(2) ? 1u << below(6) : 0));
     made(false);
+    count_pulse();
 }
 
 static void resolve(void)

@@ -6,6 +6,7 @@
  *     random seed S               one seed, every call printed
  *     random faults SEEDS         built with -DFAULTS: each fault of faults.c in turn, which must be found in so many seeds */
 #include "trial.h"
+#include "searches.h"
 #include "host.h"
 #ifdef FAULTS
 #include <sys/wait.h>
@@ -37,6 +38,18 @@ static unsigned long enough(unsigned long count, unsigned long *failed)
     return count >= LEAST;
 }
 
+/* Counts by their names, on one line; how many of them are great enough. */
+static unsigned long report_named(const char *const *names, const unsigned long *named, int n, unsigned long *failed)
+{
+    unsigned long passed = 0;
+    for (int i = 0; i < n; i++) {
+        printf("%s:", names[i]);
+        passed += enough(named[i], failed);
+        printf(i + 1 < n ? " " : "\n");
+    }
+    return passed;
+}
+
 static unsigned long report(unsigned long *failed)
 {
     unsigned long passed = 0, calls = 0;
@@ -51,11 +64,8 @@ static unsigned long report(unsigned long *failed)
         }
         printf("\n");
     }
-    for (int i = 0; i < ENDS; i++) {
-        printf("%s:", ends[i]);
-        passed += enough(ended[i], failed);
-        printf(i + 1 < ENDS ? " " : "\n");
-    }
+    passed += report_named(ends, ended, ENDS, failed);
+    passed += report_named(searched_as, searched, SEARCHED, failed);
     printf("%lu calls\n", calls);
     return passed + calls / 100;
 }

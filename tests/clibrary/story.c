@@ -1,6 +1,6 @@
 /* A host's whole story on the header alone: households are loaded and searched, jobs run with a stop and a resume from the image at each
  * pulse, and a round hands the due ones out, with a faulty one and a stop at each place. What must come out was worked out by hand
- * from document 01. The last line is 'N passed, M failed'. */
+ * from document 01 and request c of document 02. The last line is 'N passed, M failed'. */
 #include <dushvaneth.h>
 #include <stdio.h>
 #include <string.h>
@@ -111,6 +111,39 @@ static void ask(void)
     CHECK(panel[DUSHVANETH_SDR], UINT64_C(0x8000000000008880));
     CHECK(panel[DUSHVANETH_SC1], 0);
     CHECK(panel[DUSHVANETH_SC2], UINT64_C(0xFFFFFFFFFFFFFFFF));
+}
+
+/* At most day 12 marks those that before day 13 did: the days are 10, 20, 12, 30, 12 and 5. Of them the households 2, 4 and 5 have at least
+ * 3 points, with 5, 3 and 9, and 2 and 5 more than 3. */
+static void ask_with_equal(void)
+{
+    uint64_t panel[DUSHVANETH_PANEL], all[HOUSEHOLDS];
+    dushvaneth_response due[HOUSEHOLDS];
+    memcpy(all, words, sizeof all);
+    memcpy(due, responses, sizeof due);
+    memset(responses, 0, sizeof responses);
+    dushvaneth_blank(panel);
+    dushvaneth_ask(panel, 0, 8, DUSHVANETH_AT_MOST, 12);
+    CHECK(dushvaneth_load(panel, DUSHVANETH_PANEL, DUSHVANETH_TARGET, 1 << DUE), 0);
+    CHECK(dushvaneth_wide_pulse(MACHINE, panel, DUSHVANETH_PANEL, DUSHVANETH_SEARCH, ANSWER), 0);
+    CHECK(answer[DUSHVANETH_PULSE_COUNT], 4);
+    check_machine(__LINE__, all, due);
+    panel[DUSHVANETH_TARGET] = 0;
+    dushvaneth_ask(panel, 12, 4, DUSHVANETH_AT_LEAST, 3);
+    CHECK(panel[DUSHVANETH_SC1], 0xF0FF);
+    CHECK(panel[DUSHVANETH_SC2], 0x00FF);
+    CHECK(panel[DUSHVANETH_SC3], 0xF0FF);
+    CHECK(dushvaneth_cells_pulse(MACHINE, panel, DUSHVANETH_PANEL, DUSHVANETH_SEARCH, ANSWER), 0);
+    CHECK(answer[DUSHVANETH_PULSE_COUNT], 3);
+    dushvaneth_ask(panel, 12, 4, DUSHVANETH_LARGER, 3);
+    CHECK(panel[DUSHVANETH_SC3], 0x00FF);
+    CHECK(dushvaneth_wide_pulse(MACHINE, panel, DUSHVANETH_PANEL, DUSHVANETH_SEARCH, ANSWER), 0);
+    CHECK(answer[DUSHVANETH_PULSE_COUNT], 2);
+    CHECK(dushvaneth_load(panel, DUSHVANETH_PANEL, DUSHVANETH_SC3, 0x007F), 0);
+    CHECK(dushvaneth_wide_pulse(MACHINE, panel, DUSHVANETH_PANEL, DUSHVANETH_SEARCH, ANSWER), DUSHVANETH_REFUSED_TWO_CODES);
+    CHECK(dushvaneth_load(panel, DUSHVANETH_PANEL, DUSHVANETH_SC3, 0x10000), 0);
+    CHECK(dushvaneth_wide_pulse(MACHINE, panel, DUSHVANETH_PANEL, DUSHVANETH_READ, ANSWER), DUSHVANETH_REFUSED_PANEL_TOO_WIDE);
+    check_machine(__LINE__, all, due);
 }
 
 /* ---- jobs, with a stop after each pulse */
@@ -231,6 +264,7 @@ int main(void)
 {
     search();
     ask();
+    ask_with_equal();
     jobs();
     rounds();
     printf("%d passed, %d failed\n", passed, failed);

@@ -80,6 +80,7 @@ static struct {
     int which, buffers, numbers;
     struct lent lent[BUFFERS];
     uint64_t number[5];
+    uint32_t returned;
 } now;
 
 static void lend(size_t unit, const void *from, size_t length, void *home)
@@ -305,7 +306,7 @@ static bool made(bool sound)
             memcpy(at(side, k), b->bytes, b->unit * b->length);
         }
     }
-    uint32_t r = answer_of(0);
+    uint32_t r = now.returned = answer_of(0);
     if (loud) {
         printf("%d: %s", call, told[now.which].name);
         for (int k = 0; k < now.buffers; k++) {

@@ -18,7 +18,7 @@ use Rattle.machine.specs.declared.Panel.{Panel}
 use Rattle.machine.specs.declared.Code.{Code}
 use Rattle.machine.specs.declared.Code.the-variants.{DontCare, Exact}
 use Rattle.machine.specs.Machine.{responseBits, Syllable, syllables, tops, selected}
-use Rattle.machine.specs.Search.{code, codeAt, cared, asks, readOver, satisfied, matches}
+use Rattle.machine.specs.Search.{code, codeAt, orEqual, cared, asks, readOver, satisfied, matches}
 use Rattle.machine.proofs.Machine.{Tiled, syllables-tile}
 use Rattle.array.specs.declared.Cell.the-variants.{X}
 use Rattle.array.specs.declared.Registers.{Registers}
@@ -101,14 +101,14 @@ number-same k f g a b =
     ∙ ap₂ eqb (mod-eq-of-lt (number-lt k f la)) (mod-eq-of-lt (number-lt k g lb))
 
 -- what one of the two codes asks of whole numbers, and of one bit
-asked : {d : Code} (u v : ℕ) → Mild d → eqb u v ≡ true → asks d u v ≡ true
-asked u v none h = refl
-asked u v exactly h = h
+asked : {d : Code} (e : Bool) (u v : ℕ) → Mild d → eqb u v ≡ true → asks d e u v ≡ true
+asked e u v none h = refl
+asked e u v exactly h = h
 
-answered : {d : Code} (u v a b : ℕ) → Mild d → asks d u v ≡ true → (eqb u v ≡ true → eqb (cared d a) (cared d b) ≡ true)
+answered : {d : Code} (e : Bool) (u v a b : ℕ) → Mild d → asks d e u v ≡ true → (eqb u v ≡ true → eqb (cared d a) (cared d b) ≡ true)
     → eqb (cared d a) (cared d b) ≡ true
-answered u v a b none h f = refl
-answered u v a b exactly h f = f h
+answered e u v a b none h f = refl
+answered e u v a b exactly h f = f h
 
 -- a test holds at each bit of a syllable
 abbrev within : (ℕ → Bool) → Syllable → Bool
@@ -125,9 +125,9 @@ module _ (p : Panel) (e : p .sc1 ≡ 0) (x : ℕ) (y : Syllable) where
   satisfied-same =
       both-ways _ _
       (λ h. every-all (y .width) _ (λ j l.
-      answered (readOver p y x) (readOver p y (p .comp)) (bit x (y .low + j)) (bit (p .comp) (y .low + j)) (mild-at p e (y .low + j))
+      answered (orEqual p (y .low + j)) (readOver p y x) (readOver p y (p .comp)) (bit x (y .low + j)) (bit (p .comp) (y .low + j)) (mild-at p e (y .low + j))
       (every-at (y .width) _ h j l) (λ q. every-at (y .width) _ (equal ∙ q) j l)))
-      (λ h. every-all (y .width) _ (λ j l. asked (readOver p y x) (readOver p y (p .comp)) (mild-at p e (y .low + j)) (sym equal ∙ h)))
+      (λ h. every-all (y .width) _ (λ j l. asked (orEqual p (y .low + j)) (readOver p y x) (readOver p y (p .comp)) (mild-at p e (y .low + j)) (sym equal ∙ h)))
 
 -- ---- the word: its syllables tile it
 
@@ -184,14 +184,14 @@ exact-search-of-all n p w r e c h =
     exact-search n p w r e h ∙ ap (λ (t : Bool). t && agrees n (p .comp) (p .sc2) w) (every-word (p .key) (p .care) r c)
 
 -- so of an array: the word's latch, after any search, by whether the exact search matches the word: the words that agree or those that don't, put in
--- place of the set, ANDed or ORed with it
+-- place of the set, ANDed or ORed with it. The exact search has SC1 and SC3 0, or 5 would be given.
 pub exact-latch : (a : Array) (r : Registers) → callCheck a r ≡ Passed
     → (d : Source) (mask : Mask) (wanted : Wanted) (set : Latches) (combine : Combine) (p : Panel)
-    → p .comp ≡ dataOf r d → p .sc1 ≡ 0 → p .sc2 ≡ maskOf (a .width) r mask → p .care ≡ 0
+    → p .comp ≡ dataOf r d → p .sc1 ≡ 0 → p .sc2 ≡ maskOf (a .width) r mask → p .sc3 ≡ 0 → p .care ≡ 0
     → (k response : ℕ) → k < length (a .ones) → NoX (a .width) (wordAt a k)
     → latch set (wordAt (after a r (Search d mask wanted set combine)) k .selectors)
     ≡ combined combine (latch set (wordAt a k .selectors)) (wants wanted (matches (a .width) p (getD (a .ones) k 0) response))
-exact-latch a r accepted d mask wanted set combine p comp sc1 sc2 care k response h x =
+exact-latch a r accepted d mask wanted set combine p comp sc1 sc2 sc3 care k response h x =
     search-marks a r accepted d mask wanted set combine k h
     ∙ ap (λ (t : Bool). combined combine (latch set (wordAt a k .selectors)) (wants wanted t))
     (ap₂ (λ (x m : ℕ). agrees (a .width) x m (wordAt a k)) (sym comp) (sym sc2) ∙ sym (exact-search-of-all (a .width) p (wordAt a k) response sc1 care x))

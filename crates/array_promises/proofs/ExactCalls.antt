@@ -15,21 +15,19 @@ use borrow.Fn.Kinds.{endedOf}
 use denote.Triple.Clauses.{AtExit}
 use denote.Ref.{now}
 use borrow.Author.Tests.{lt-leb}
-use Rattle.laws.specs.Bits.{bit, every, digit}
-use Rattle.laws.specs.Lists.{all}
+use Rattle.laws.specs.Bits.{bit, digit}
 use Rattle.laws.proofs.Digits.{Bit, off, on}
-use Rattle.laws.proofs.Bits.{digit-at, every-all}
+use Rattle.laws.proofs.Bits.{digit-at}
 use Rattle.machine.specs.declared.Panel.{Panel}
 use Rattle.machine.specs.declared.Lines.{Lines}
-use Rattle.machine.specs.declared.Code.{Code}
 use Rattle.machine.specs.declared.Check.the-variants as check
 use Rattle.machine.specs.declared.Answer as base-answer
-use Rattle.machine.specs.Machine.{Machine, machine, responseBits, Syllable, syllables}
-use Rattle.machine.specs.Search.{orExact, oneCode, matches}
+use Rattle.machine.specs.Machine.{Machine, machine, responseBits, syllables}
 use Rattle.machine.specs.Panel.{panelOf}
 use Rattle.machine.specs.Refusals as base
 use Rattle.machine.specs.Refusals.{badPanel, badCodes, badLines, badAddress, machineCheck, pulseCheck}
 use Rattle.machine.proofs.Refusals.{none-lowest, or-left}
+use Rattle.machine.proofs.Search.{all-unmixed}
 use Rattle.promises.proofs.Demand2 as pulses
 use Rattle.array.specs.declared.Registers.{Registers}
 use Rattle.array.specs.declared.Source.{Source}
@@ -52,7 +50,7 @@ use Rattle.array.proofs.Refusals.{Sound, sound, same-xs, same-selectors, r1-fit
 use Rattle.array_promises.proofs.Again.{at-every}
 use Rattle.array_promises.proofs.Demand1.{told-accepted}
 use Rattle.array_promises.proofs.Demand2.{wordAt}
-use Rattle.array_promises.proofs.Exact.{NoX, Mild, none, exactly, mild-at, exact-latch}
+use Rattle.array_promises.proofs.Exact.{NoX, exact-latch}
 use Rattle.array_cells.proofs.operate as plain
 use Rattle.array_cells.proofs.operate.Kinds as plain-kinds
 use Rattle.array_cells.proofs.operate.Reads as plain-reads
@@ -66,25 +64,16 @@ use Rattle.wide.proofs.pulse as wide-pulse
 use Rattle.wide.proofs.pulse.Kinds as wide-pulse-kinds
 use Rattle.wide.proofs.pulse.Reads as wide-pulse-reads
 
--- the exact search under the same mask, as the machine's panel has it: COMP is the data, SC1 0, SC2 the mask, care 0; SDR, MOR, key and address are 0
--- too, and the target is any
+-- the exact search under the same mask, as the machine's panel has it: COMP is the data, SC1 0, SC2 the mask, SC3 0, care 0; SDR, MOR, key and address
+-- are 0 too, and the target is any
 abbrev pub exactPanel : Array → Registers → Source → Mask → ℕ → Panel
-exactPanel a r d k target = panelOf (dataOf r d ∷ 0 ∷ 0 ∷ maskOf (a .width) r k ∷ 0 ∷ 0 ∷ 0 ∷ target ∷ [])
+exactPanel a r d k target = panelOf (dataOf r d ∷ 0 ∷ 0 ∷ maskOf (a .width) r k ∷ 0 ∷ 0 ∷ 0 ∷ target ∷ 0 ∷ 0 ∷ [])
 
 -- search, raised alone
 abbrev pub searchLine : Lines
 searchLine = record { search = true; read = false; write = false; add = false; multiwrite = false; multiadd = false; complement = false }
 
 -- ---- that pulse is accepted
-
-mild-exact : {d : Code} → Mild d → orExact d ≡ true
-mild-exact none = refl
-mild-exact exactly = refl
-
-one-code : (p : Panel) → p .sc1 ≡ 0 → (ys : List Syllable) → all (oneCode p) ys ≡ true
-unfolding all oneCode
-one-code p e [] = refl
-one-code p e (y ∷ ys) = rw (every-all (y .width) _ (λ j l. mild-exact (mild-at p e _))) (one-code p e ys)
 
 module _ (a : Array) (r : Registers) (accepted : callCheck a r ≡ Passed) (d : Source) (k : Mask) (responses : List ℕ)
     (same : length responses ≡ length (a .ones)) (target : ℕ) where
@@ -114,7 +103,7 @@ module _ (a : Array) (r : Registers) (accepted : callCheck a r ≡ Passed) (d : 
         lt-leb (2 ^ a .width) (dataOf r d) (data-fits d),
         lt-leb (2 ^ a .width) 0 (pow-pos (a .width)),
         lt-leb (2 ^ a .width) (maskOf (a .width) r k) (mask-fits k),
-        one-code (exactPanel a r d k target) refl (syllables (a .width) 0),
+        all-unmixed (exactPanel a r d k target) refl refl (syllables (a .width) 0),
       )
 
   -- ---- and its target bit is the selector bit
@@ -128,7 +117,7 @@ module _ (a : Array) (r : Registers) (accepted : callCheck a r ≡ Passed) (d : 
       ≡ bit (getD (base.after (machine (a .width) (a .ones) responses) (exactPanel a r d k target) searchLine .responses) j 0) i
   exact-bit set j i h l t x =
       as-digit (digit-at (getD (after a r (Search d k Agree set Replace) .selectors) j 0) (place set))
-      ∙ ap digit (exact-latch a r accepted d k Agree set Replace (exactPanel a r d k target) refl refl refl refl j (getD responses j 0) h x)
+      ∙ ap digit (exact-latch a r accepted d k Agree set Replace (exactPanel a r d k target) refl refl refl refl refl j (getD responses j 0) h x)
       ∙ sym (pulses.search-marks (machine (a .width) (a .ones) responses) (exactPanel a r d k target) searchLine exact-accepted refl j i h l ∙ rw t)
 
 -- ---- the calls

@@ -14,7 +14,7 @@ use Rattle.machine.specs.declared.Refusal.{Refusal}
 use Rattle.machine.specs.declared.Check.the-variants as check
 use Rattle.machine.specs.declared.Answer.the-variants as answer
 use Rattle.machine.specs.Machine.{machine, syllables, selected}
-use Rattle.machine.specs.Search.{oneCode, matches, marked}
+use Rattle.machine.specs.Search.{unmixed, matches, marked}
 use Rattle.machine.specs.Cells.{cellsMatch}
 use Rattle.machine.specs.Pulse.{written, added, change, wordAfter, flipped, responseAfter, counts, countOf, readOf, pulsed}
 use Rattle.machine.specs.Refusals.{badCodes, pulseCheck, answerOf, after}
@@ -29,7 +29,7 @@ module _ (n : ℕ) (p : Panel) (l : Lines) (k w r : ℕ) where
   unfolding wordAfter
   word-is s x h e = rw h at e
 
-  codes-fine : l .search ≡ true → badCodes n p l ≡ false → all (oneCode p) (syllables n (p .sdr)) ≡ true
+  codes-fine : l .search ≡ true → badCodes n p l ≡ false → all (unmixed p) (syllables n (p .sdr)) ≡ true
   unfolding badCodes
   codes-fine h g = not-false _ (rw h at g)
 

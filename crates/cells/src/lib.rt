@@ -124,7 +124,7 @@ fn bad_codes(width: u32, panel: Panel, lines: Lines) -> bool
     requires { ⌜ badWidth width ≡ false ⌝ }
     ensures { λ r. ⌜ r ≡ badCodes width panel lines ⌝ }
 {
-    lines.search & !search::all_one_code(width, panel)
+    lines.search & !search::all_unmixed(width, panel)
 }
 
 pub fn check(words: &[u64], responses: &[Response], width: u32, panel: Panel, lines: Lines) -> Check

@@ -1,4 +1,4 @@
-// Search, cell by cell: the codes, the statuses from top bit to bottom, what the bottom wants.
+// Search, cell by cell: the codes and SC3's settings, the statuses from top bit to bottom, what the bottom wants.
 use crate::bits::bit_of;
 use machine::Code;
 use machine::Panel;
@@ -12,7 +12,7 @@ ghost use Prim.Native.Nat.{suc, _+_, _≤_, _<_};
 ghost use Rattle.laws.specs.Bits.{bit, every, pick};
 ghost use Rattle.laws.specs.Lists.{all};
 ghost use Rattle.machine.specs.Machine.{isTop, bottom, downFrom, syllables};
-ghost use Rattle.machine.specs.Search.{codeAt, eachCode, orExact, orLarger, orSmaller, oneCode};
+ghost use Rattle.machine.specs.Search.{codeAt, eachCode, orEqual, orExact, orLarger, orSmaller, oneCode, orUnset, orSet, overCompared, oneSetting, comparedOnly, unmixed};
 ghost use Rattle.machine.specs.Cells.{cell, statusOf, wants, accepted, cellsMatch};
 ghost use Rattle.chains.specs.Walks.{syllable, here};
 
@@ -40,7 +40,7 @@ pub(crate) fn bottom_of(sdr: u64, i: u32) -> u32
     low
 }
 
-// ---- codes
+// ---- codes and SC3
 
 fn code_at(panel: Panel, i: u32) -> Code
     requires { ⌜ i < 64 ⌝ }
@@ -61,6 +61,14 @@ fn code_at(panel: Panel, i: u32) -> Code
             Code::Smaller
         }
     }
+}
+
+// Whether SC3 has a one at bit i.
+fn or_equal_at(panel: Panel, i: u32) -> bool
+    requires { ⌜ i < 64 ⌝ }
+    ensures { λ r. ⌜ r ≡ orEqual panel i ⌝ }
+{
+    bit_of(panel.sc3, i) == 1
 }
 
 fn or_exact(code: Code) -> bool
@@ -115,27 +123,87 @@ fn has_one_code(panel: Panel, low: u32, width: u32) -> bool
     exact | (larger | smaller)
 }
 
+fn or_unset(code: Code, equal: bool) -> bool
+    ensures { λ r. ⌜ r ≡ orUnset code equal ⌝ }
+{
+    match code {
+        Code::DontCare => true,
+        Code::Exact => !equal,
+        Code::Larger => !equal,
+        Code::Smaller => !equal,
+    }
+}
+
+fn or_set(code: Code, equal: bool) -> bool
+    ensures { λ r. ⌜ r ≡ orSet code equal ⌝ }
+{
+    match code {
+        Code::DontCare => true,
+        Code::Exact => equal,
+        Code::Larger => equal,
+        Code::Smaller => equal,
+    }
+}
+
+fn over_compared(code: Code, one: bool) -> bool
+    ensures { λ r. ⌜ r ≡ overCompared code one ⌝ }
+{
+    match code {
+        Code::DontCare => !one,
+        Code::Exact => !one,
+        Code::Larger => true,
+        Code::Smaller => true,
+    }
+}
+
+// Whether the bits of a syllable that are cared for have one setting of SC3, and no other bit has a one of it.
+fn has_one_setting(panel: Panel, low: u32, width: u32) -> bool
+    requires { ⌜ low + width ≤ 64 ⌝ }
+    ensures { λ r. ⌜ r ≡ (oneSetting panel (syllable low width) && comparedOnly panel (syllable low width)) ⌝ }
+{
+    let mut unset = true;
+    let mut set = true;
+    let mut compared = true;
+    let mut j: u32 = 0;
+    while j < width {
+        let code = code_at(panel, low + j);
+        let equal = or_equal_at(panel, low + j);
+        unset = or_unset(code, equal) & unset;
+        set = or_set(code, equal) & set;
+        compared = over_compared(code, equal) & compared;
+        j += 1;
+    }
+    (unset | set) & compared
+}
+
+fn is_unmixed(panel: Panel, low: u32, width: u32) -> bool
+    requires { ⌜ low + width ≤ 64 ⌝ }
+    ensures { λ r. ⌜ r ≡ unmixed panel (syllable low width) ⌝ }
+{
+    has_one_code(panel, low, width) & has_one_setting(panel, low, width)
+}
+
 // At bit i: the syllable that it starts, or true where it starts none.
-fn one_code_at(n: u32, panel: Panel, i: u32) -> bool
+fn unmixed_at(n: u32, panel: Panel, i: u32) -> bool
     requires { ⌜ i < 64 ⌝ }
-    ensures { λ r. ⌜ r ≡ here (oneCode panel) n (panel .sdr) i ⌝ }
+    ensures { λ r. ⌜ r ≡ here (unmixed panel) n (panel .sdr) i ⌝ }
 {
     if is_top(n, panel.sdr, i) {
         let low = bottom_of(panel.sdr, i);
-        has_one_code(panel, low, i + 1 - low)
+        is_unmixed(panel, low, i + 1 - low)
     } else {
         true
     }
 }
 
-pub fn all_one_code(n: u32, panel: Panel) -> bool
+pub fn all_unmixed(n: u32, panel: Panel) -> bool
     requires { ⌜ n ≤ 64 ⌝ }
-    ensures { λ r. ⌜ r ≡ all (oneCode panel) (syllables n (panel .sdr)) ⌝ }
+    ensures { λ r. ⌜ r ≡ all (unmixed panel) (syllables n (panel .sdr)) ⌝ }
 {
     let mut so_far = true;
     let mut i: u32 = 0;
     while i < n {
-        so_far = so_far & one_code_at(n, panel, i);
+        so_far = so_far & unmixed_at(n, panel, i);
         i += 1;
     }
     so_far
@@ -196,11 +264,16 @@ fn status_of(panel: Panel, w: u64, low: u32, width: u32) -> Status
     status
 }
 
-fn is_wanted(code: Code, status: Status) -> bool
-    ensures { λ r. ⌜ r ≡ wants code status ⌝ }
+fn is_wanted(code: Code, equal: bool, status: Status) -> bool
+    ensures { λ r. ⌜ r ≡ wants code equal status ⌝ }
 {
     match status {
-        Status::Equal => or_exact(code),
+        Status::Equal => match code {
+            Code::DontCare => true,
+            Code::Exact => true,
+            Code::Larger => equal,
+            Code::Smaller => equal,
+        },
         Status::For => match code {
             Code::DontCare => true,
             Code::Exact => false,
@@ -225,7 +298,9 @@ fn is_accepted(panel: Panel, w: u64, low: u32, width: u32) -> bool
     let mut content = true;
     let mut j: u32 = 0;
     while j < width {
-        content = is_wanted(code_at(panel, low + j), status) & content;
+        let code = code_at(panel, low + j);
+        let equal = or_equal_at(panel, low + j);
+        content = is_wanted(code, equal, status) & content;
         j += 1;
     }
     content

@@ -70,7 +70,7 @@ load-still : (b : Board) (args : List (List ℕ)) → loaded b args .outcome ≡
 unfolding loaded
 load-still b [] e = refl
 load-still b (name ∷ args) e =
-    let k = placeOf name registerNames in rw (wrong-turn (ltb k 9 && fits (letterFor k) args) _ _ e fine-other) refl
+    let k = placeOf name registerNames in rw (wrong-turn (ltb k 10 && fits (letterFor k) args) _ _ e fine-other) refl
 
 read-still : (b : Board) (n : Number) (image : List ℕ) (fit : Bool) (w r : ℕ) (words responses : List ℕ) →
     readTurn b n image fit w r .outcome ≡ outcome.BadLine → (readTurn b n image fit w r .board ≡ b)

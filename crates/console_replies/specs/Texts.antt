@@ -15,9 +15,12 @@ use Rattle.console_commands.specs.declared.Outcome.the-variants as outcome
 
 -- ---- the panel
 
+-- request c: "`sc3 HEX` after `sc2 HEX`"
+abbrev pub searchText : Panel → List ℕ
+searchText p = named16 " sc1 " (p .sc1) ++ named16 " sc2 " (p .sc2) ++ named16 " sc3 " (p .sc3)
+
 abbrev pub registersText : Panel → List ℕ
-registersText p =
-    named16 "comp " (p .comp) ++ named16 " sdr " (p .sdr) ++ named16 " sc1 " (p .sc1) ++ named16 " sc2 " (p .sc2) ++ named16 " mor " (p .mor)
+registersText p = named16 "comp " (p .comp) ++ named16 " sdr " (p .sdr) ++ searchText p ++ named16 " mor " (p .mor)
 
 -- the panel but for its address
 abbrev pub panelText : Panel → List ℕ

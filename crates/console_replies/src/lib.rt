@@ -13,14 +13,21 @@ const NEWLINE: u8 = 10;
 
 // ---- a part of a line, behind the bytes that are used
 
+fn put_codes(out: &mut [u8], at: usize, panel: Panel) -> usize
+    ensures { λ r. ⌜ Puts (texts.searchText panel) at (now (out .entry)) (now (out .exit)) r ⌝ }
+{
+    let sc1 = output::put_named16(out, at, b" sc1 ", panel.sc1);
+    let sc2 = output::put_named16(out, sc1, b" sc2 ", panel.sc2);
+    output::put_named16(out, sc2, b" sc3 ", panel.sc3)
+}
+
 fn put_registers(out: &mut [u8], at: usize, panel: Panel) -> usize
     ensures { λ r. ⌜ Puts (texts.registersText panel) at (now (out .entry)) (now (out .exit)) r ⌝ }
 {
     let comp = output::put_named16(out, at, b"comp ", panel.comp);
     let sdr = output::put_named16(out, comp, b" sdr ", panel.sdr);
-    let sc1 = output::put_named16(out, sdr, b" sc1 ", panel.sc1);
-    let sc2 = output::put_named16(out, sc1, b" sc2 ", panel.sc2);
-    output::put_named16(out, sc2, b" mor ", panel.mor)
+    let codes = put_codes(out, sdr, panel);
+    output::put_named16(out, codes, b" mor ", panel.mor)
 }
 
 // The panel but for its address.

@@ -5,7 +5,7 @@ use mathlib.Core.Bool.{Bool, true, false}
 use mathlib.Core.Path.{_≡_, refl}
 use mathlib.Core.List.{List, [], _∷_}
 use native.Mathlib.Omega.{arith}
-use borrow.Author.Tests.{leb-true, ltb-false, lt-ltb, le-ltb, lt-leb, eq-eqb}
+use borrow.Author.Tests.{leb-true, lt-ltb, le-ltb, lt-leb, ne-eqb}
 use lib.Dec.{ltb, leb}
 use Rattle.laws.specs.Bits.{pick}
 use Rattle.panel.specs.Numbered.{takes}
@@ -21,8 +21,11 @@ for-wide k h = rw (lt-ltb k 5 h)
 pub for-narrow : (k : ℕ) → 5 ≤ k → k < 8 → letterFor k ≡ "h"
 for-narrow k h g = rw (le-ltb k 5 h, lt-ltb k 8 g)
 
-pub for-address : (k : ℕ) → 8 ≤ k → letterFor k ≡ "a"
-for-address k h = rw (le-ltb k 5 (omega arith), le-ltb k 8 h)
+pub for-address : (k : ℕ) → k ≡ 8 → letterFor k ≡ "a"
+for-address k e = rw e
+
+pub for-third : (k : ℕ) → 8 ≤ k → (k ≡ 8 → ⊥) → letterFor k ≡ "x"
+for-third k h n = rw (le-ltb k 5 (omega arith), le-ltb k 8 h, ne-eqb k 8 n)
 
 -- a row read by this letter is one read by the register's
 pub by-letter : (k : ℕ) (letter : String) (args : List (List ℕ)) (right : Bool) (row : List ℕ) → letterFor k ≡ letter → right ≡ fits letter args →
@@ -45,11 +48,11 @@ unfolding numbersOf letterOf
 small [] = omega arith
 small (word ∷ words) = most-small (hexOf word)
 
-taken-by : (k : ℕ) (args : List (List ℕ)) (wide narrow : Bool) → ltb k 5 ≡ wide → ltb k 8 ≡ narrow → k ≤ 8 →
+taken-by : (k : ℕ) (args : List (List ℕ)) (wide narrow : Bool) → ltb k 5 ≡ wide → ltb k 8 ≡ narrow → k ≤ 9 →
     takes k (numberAt (values (letterFor k) args) 0) ≡ true
 taken-by k args true narrow e f h = rw e
 taken-by k args false true e f h = rw (e, f, lt-leb 256 (numberAt (values "h" args) 0) (small args))
-taken-by k args false false e f h = rw (e, f, eq-eqb k 8 (omega (arith, ltb-false k 8 f)))
+taken-by k args false false e f h = rw (e, f, lt-ltb k 10 (omega arith))
 
-pub taken : (k : ℕ) (args : List (List ℕ)) → k ≤ 8 → takes k (numberAt (values (letterFor k) args) 0) ≡ true
+pub taken : (k : ℕ) (args : List (List ℕ)) → k ≤ 9 → takes k (numberAt (values (letterFor k) args) 0) ≡ true
 taken k args h = taken-by k args (ltb k 5) (ltb k 8) refl refl h

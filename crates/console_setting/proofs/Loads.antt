@@ -25,7 +25,7 @@ use Rattle.console_setting.specs.Settings.{withPanel, registerNames, let
 
 -- ---- what the definitions say
 
-nameless : placeOf [] registerNames ≡ 9
+nameless : placeOf [] registerNames ≡ 10
 unfolding wordsOf joined placeOf alike
 nameless = refl
 
@@ -48,19 +48,19 @@ after-is line at = take-all (length line - at) (drop at line) (omega (arith, len
 
 module _ (line : List ℕ) (b : Board) (p : Place) (is : p ≡ wordAt line 0) (k : ℕ)
     (named : k ≡ placeOf (take (p .to - p .from) (drop (p .from) line)) registerNames) where
-  none-named : p .from ≡ p .to → k ≡ 9
+  none-named : p .from ≡ p .to → k ≡ 10
   none-named e = let z : p .to - p .from ≡ 0 = omega arith in named ∙ (rw z nameless)
 
   one-named : p .from < p .to → loaded b (wordsOf line) ≡ loadedAt b k (wordsOf (after line (p .to)))
   one-named h = rw (after-is line (p .to), here-one line 0 p is (omega arith) h, loaded-one, ← named)
 
-  pub unnamed : 8 < k → badLine b ≡ loaded b (wordsOf line)
+  pub unnamed : 9 < k → badLine b ≡ loaded b (wordsOf line)
   unnamed h =
       ⊎-elim (λ (e : p .from ≡ p .to). rw (here-none line 0 p is (omega arith) e, loaded-none))
-      (λ (f : p .from < p .to). rw (one-named f, le-ltb k 9 (omega arith)))
+      (λ (f : p .from < p .to). rw (one-named f, le-ltb k 10 (omega arith)))
       (eq-or-lt-of-le (here-ordered line 0 p is (omega arith)))
 
-  module _ (few : k ≤ 8) where
+  module _ (few : k ≤ 9) where
     split : loaded b (wordsOf line) ≡ loadedAt b k (wordsOf (after line (p .to)))
     split =
         ⊎-elim (λ (e : p .from ≡ p .to). let z : ⊥ = omega (arith, none-named e) in absurd z)
@@ -69,7 +69,7 @@ module _ (line : List ℕ) (b : Board) (p : Place) (is : p ≡ wordAt line 0) (k
 
     module _ (right : Bool) (fit : right ≡ fits (letterFor k) (wordsOf (after line (p .to)))) where
       pub misread : not right ≡ true → badLine b ≡ loaded b (wordsOf line)
-      misread h = rw (split, lt-ltb k 9 (omega arith), ← fit, not-true right h)
+      misread h = rw (split, lt-ltb k 10 (omega arith), ← fit, not-true right h)
 
       module _ (h : not right ≡ false) (row : List ℕ) (reads : right ≡ true → row ≡ values (letterFor k) (wordsOf (after line (p .to))))
           (q : Panel) where
@@ -79,4 +79,4 @@ module _ (line : List ℕ) (b : Board) (p : Place) (is : p ≡ wordAt line 0) (k
             let m : row ≡ values (letterFor k) (wordsOf (after line (p .to))) = reads (not-false right h) in
             let f : registers q ≡ load k (numberAt (values (letterFor k) (wordsOf (after line (p .to)))) 0) (b .panel) =
             rw (m, taken k (wordsOf (after line (p .to))) few) at e in
-            ap (λ (rs : List ℕ). fine (withPanel b (panelOf rs))) f ∙ sym (rw (split, lt-ltb k 9 (omega arith), ← fit, not-false right h))
+            ap (λ (rs : List ℕ). fine (withPanel b (panelOf rs))) f ∙ sym (rw (split, lt-ltb k 10 (omega arith), ← fit, not-false right h))

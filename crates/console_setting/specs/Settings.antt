@@ -4,7 +4,7 @@ use Prim.Native.Nat.{ℕ}
 use Prim.Native.String.{String}
 use mathlib.Core.Bool.{Bool, _&&_}
 use mathlib.Core.List.{List, [], _∷_}
-use lib.Dec.{ltb}
+use lib.Dec.{ltb, eqb}
 use lib.ListN.{length, replicate, getD, set}
 use Rattle.laws.specs.Bits.{pick}
 use Rattle.machine.specs.declared.Panel.{Panel}
@@ -62,20 +62,20 @@ withPanel b p = record { width = b .width; words = b .words; responses = b .resp
 
 -- the registers' names in the order of their numbers
 abbrev pub registerNames : List (List ℕ)
-registerNames = wordsOf (ascii "comp sdr sc1 sc2 mor key care target address")
+registerNames = wordsOf (ascii "comp sdr sc1 sc2 mor key care target address sc3")
 
--- "`comp` `sdr` `sc1` `sc2` `mor`, or `key` `care` `target` (at most FF)"; "the address, decimal, below 2^64"
+-- "`comp` `sdr` `sc1` `sc2` `mor`, or `key` `care` `target` (at most FF)"; "the address, decimal, below 2^64"; 02 c: "load sc3 HEX"
 abbrev pub letterFor : ℕ → String
-letterFor register = pick (ltb register 5) "x" (pick (ltb register 8) "h" "a")
+letterFor register = pick (ltb register 5) "x" (pick (ltb register 8) "h" (pick (eqb register 8) "a" "x"))
 
 -- register k loaded with the number that follows; "Loading one register of the panel changes that register and no other"
 abbrev pub loadedAt : Board → ℕ → List (List ℕ) → Turn
 loadedAt b k args =
-    pick (ltb k 9 && fits (letterFor k) args)
+    pick (ltb k 10 && fits (letterFor k) args)
     (fine (withPanel b (panelOf (load k (numberAt (values (letterFor k) args) 0) (b .panel)))))
     (badLine b)
 
--- "load R HEX", "load address A"
+-- "load R HEX", "load address A"; 02 c: "load sc3 HEX"
 unfoldable pub loaded : Board → List (List ℕ) → Turn
 loaded b [] = badLine b
 loaded b (name ∷ args) = loadedAt b (placeOf name registerNames) args

@@ -114,10 +114,13 @@ fn read_value(register: usize, rest: &[u8]) -> Row
     if register < 8 {
         return arguments::read(rest, b"h");
     }
-    arguments::read(rest, b"a")
+    if register == 8 {
+        return arguments::read(rest, b"a");
+    }
+    arguments::read(rest, b"x")
 }
 
-// load R HEX, load address A
+// load R HEX, load address A, load sc3 HEX
 pub fn load(board: Board, rest: &[u8]) -> Turn
     ensures { λ r. ⌜ r ≡ settings.loaded board (wordsOf (now (rest .entry))) ⌝ }
 {
@@ -126,10 +129,10 @@ pub fn load(board: Board, rest: &[u8]) -> Turn
     let to = word.to;
     let end = rest.len();
     let register = text::words::which(
-        b"comp sdr sc1 sc2 mor key care target address",
+        b"comp sdr sc1 sc2 mor key care target address sc3",
         &rest[from..to],
     );
-    if 8 < register {
+    if 9 < register {
         return bad_line(board);
     }
     let row = read_value(register, &rest[to..end]);

@@ -11,7 +11,7 @@ use Rattle.laws.proofs.Digits.{Bit, off, on, bit-lt}
 use Rattle.laws.proofs.Bits.{digit-at, number-lt, number-bit, every-like, every-all, every-at, every-eqb, bit-none}
 use Rattle.machine.specs.declared.ResponseBit.{ResponseBit}
 use Rattle.machine.specs.Machine.{responseBits, selected}
-use Rattle.machine.specs.Search.{code, codeAt, cared, asks, readOver, satisfied, matches, marked}
+use Rattle.machine.specs.Search.{code, codeAt, orEqual, cared, asks, readOver, satisfied, matches, marked}
 use Rattle.machine.specs.Pulse.{wordAfter, responseAfter}
 use Rattle.job_plans.specs.Commands.{look}
 use Rattle.ends.proofs.Agreeing.{agrees, one-here, one-there}
@@ -19,9 +19,9 @@ use Rattle.ends.proofs.Shapes.{from, whole}
 
 -- ---- one syllable with exact bits and don't-care bits: agreement under the mask
 
-one-asks : {m : ℕ} → Bit m → (x y : ℕ) → asks (code 0 m) x y ≡ (eqb m 0 || eqb x y)
-one-asks off x y = refl
-one-asks on x y = refl
+one-asks : {m : ℕ} → Bit m → (e : Bool) (x y : ℕ) → asks (code 0 m) e x y ≡ (eqb m 0 || eqb x y)
+one-asks off e x y = refl
+one-asks on e x y = refl
 
 cared-lt : {m b : ℕ} → Bit m → Bit b → cared (code 0 m) b < 2
 cared-lt off b = omega arith
@@ -76,7 +76,7 @@ module _ (n key care : ℕ) (t : ResponseBit) (mask comp : ℕ) where
   unfolding satisfied
   asked w =
       every-like n _ (λ i. eqb (bit mask i) 0 || agrees n mask w comp)
-      (λ i g. rw (code-is i) (one-asks (digit-at mask i) (seen w) (seen comp)) ∙ ap (λ (b : Bool). eqb (bit mask i) 0 || b) (seen-same w))
+      (λ i g. rw (code-is i) (one-asks (digit-at mask i) (orEqual (look key care t mask comp .panel) (0 + i)) (seen w) (seen comp)) ∙ ap (λ (b : Bool). eqb (bit mask i) 0 || b) (seen-same w))
       ∙ asked-if w _ (agrees n mask w comp) refl refl
 
   -- "A word matches if it is selected and all its syllables are satisfied."

@@ -15,7 +15,7 @@ use Rattle.machine.specs.declared.Refusal.the-variants.{Size, PanelTooWide}
 use Rattle.machine.specs.declared.Check.the-variants.{Passed, Refused}
 use Rattle.machine.specs.Machine.{Machine, responseBits}
 use Rattle.machine.specs.Panel.{panelOf}
-use Rattle.machine.specs.Search.{oneCode}
+use Rattle.machine.specs.Search.{oneCode, oneSetting, comparedOnly}
 use Rattle.machine.specs.Refusals.{tooWide, badPanel, badCodes, badAddress, refuse, pulseCheck, numberOf}
 use Rattle.machine.proofs.Refusals.{else-passed, not-refused, or-left, or-right}
 use Rattle.entry_forms.specs.Numbers.{panelSize, overflows, panelCheck, panelIn, lowerOf}
@@ -36,7 +36,7 @@ panel-in rs h =
 
 -- key, care and target are no part of it
 pub check-in : (m : Machine) (rs : List ℕ) (l : Lines) → pulseCheck m (panelIn rs) l ≡ pulseCheck m (panelOf rs) l
-unfolding pulseCheck badPanel badCodes badAddress oneCode
+unfolding pulseCheck badPanel badCodes badAddress oneCode oneSetting comparedOnly
 check-in m rs l = refl
 
 -- ---- of two numbers the lower one: both arms of the code's test

@@ -31,7 +31,7 @@ lower (check.Refused r) c = check.Refused (lowerOf r c)
 -- ---- a panel is a buffer of its registers in the order of their numbers
 
 abbrev pub panelSize : ℕ
-panelSize = 9
+panelSize = 10
 
 -- register k is one of 8 bits and doesn't fit
 abbrev pub overflows : List ℕ → ℕ → Bool
@@ -47,7 +47,7 @@ abbrev pub panelIn : List ℕ → Panel
 panelIn rs =
     let at : ℕ → ℕ = λ k. getD rs k 0 in
     let narrow : ℕ → ℕ = λ k. at k % 2 ^ responseBits in
-    panelOf (at 0 ∷ at 1 ∷ at 2 ∷ at 3 ∷ at 4 ∷ narrow 5 ∷ narrow 6 ∷ narrow 7 ∷ at 8 ∷ [])
+    panelOf (at 0 ∷ at 1 ∷ at 2 ∷ at 3 ∷ at 4 ∷ narrow 5 ∷ narrow 6 ∷ narrow 7 ∷ at 8 ∷ at 9 ∷ [])
 
 -- ---- the line byte: a bit for each line, search lowest, in document 01's order; a stray bit is 6
 

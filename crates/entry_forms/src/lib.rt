@@ -47,7 +47,7 @@ pub fn lower(first: Check, second: Check) -> Check
 
 // ---- a panel
 
-pub const PANEL_SIZE: usize = 9;
+pub const PANEL_SIZE: usize = 10;
 
 fn register(registers: &[u64], k: usize) -> u64
     ensures { λ r. ⌜ r ≡ getD (now (registers .entry)) k 0 ⌝ }
@@ -84,6 +84,7 @@ pub fn panel_of(registers: &[u64]) -> Panel
     panel.target = response_of(register(registers, 7));
     let word = WordSlice(register(registers, 8) as usize);
     panel.address = word;
+    panel.sc3 = register(registers, 9);
     panel
 }
 

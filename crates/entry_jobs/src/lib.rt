@@ -122,6 +122,7 @@ fn tell_given(answer: &mut [u64], given: Command, count: usize, held: Held)
         panel.care as u64,
         panel.target as u64,
         panel.address.0 as u64,
+        panel.sc3,
         entry_forms::line_byte(given.lines),
         count as u64,
         count_held(held),
@@ -146,6 +147,7 @@ fn tell_stepped(answer: &mut [u64], stepped: Stepped) -> u32
             let numbers = [
                 machine::number_of(why),
                 machine::also_of(why),
+                0,
                 0,
                 0,
                 0,

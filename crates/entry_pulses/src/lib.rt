@@ -53,6 +53,7 @@ fn store(buffer: &mut [u64], from: Panel)
     buffer[6] = from.care as u64;
     buffer[7] = from.target as u64;
     buffer[8] = from.address.0 as u64;
+    buffer[9] = from.sc3;
 }
 
 #[no_mangle]

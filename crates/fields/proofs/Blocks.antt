@@ -1,10 +1,10 @@
 -- Numbers taken apart at a field's top: equalities, zeros and the tops' ones, field by field.
-use Prim.Native.Nat.{ℕ, suc, _+_, _*_, _/_, _%_, _^_, _<_, min}
+use Prim.Native.Nat.{ℕ, suc, _+_, _-_, _*_, _/_, _%_, _^_, _≤_, _<_, min}
 use mathlib.Core.Path.{_≡_, refl, sym, ap, ap₂, _∙_}
 use mathlib.Core.List.{List, _∷_}
-use mathlib.Core.Bool.{Bool, true, false, _&&_}
+use mathlib.Core.Bool.{Bool, true, false, not, _&&_}
 use mathlib.Core.Logic.{⊎-elim}
-use native.Mathlib.Nat.{pow-suc, zero-mod, zero-div, add-zero, zero-mul}
+use native.Mathlib.Nat.{pow-suc, zero-mod, zero-div, add-zero, zero-mul, mul-le-mul-right, add-mul}
 use native.Mathlib.Omega.{arith}
 use lib.Dec.{ltb, eqb}
 use lib.Arith.{bin-ind, digits-div, digits-mod}
@@ -60,6 +60,12 @@ zero-split k x =
     and-eqb x 0 (x % 2 ^ k) 0 (x / 2 ^ k) 0 (λ e. rw e (zero-mod _)) (λ e. rw e (zero-div _))
     (λ e g. sym (split x k) ∙ ap₂ (λ (u v : ℕ). u * 2 ^ k + v) g e ∙ omega arith)
 
+-- equal exactly if the low parts and the high parts are
+pub eqb-split : (k x y : ℕ) → eqb x y ≡ (eqb (x % 2 ^ k) (y % 2 ^ k) && eqb (x / 2 ^ k) (y / 2 ^ k))
+eqb-split k x y =
+    and-eqb x y (x % 2 ^ k) (y % 2 ^ k) (x / 2 ^ k) (y / 2 ^ k) (ap (λ (z : ℕ). z % 2 ^ k)) (ap (λ (z : ℕ). z / 2 ^ k))
+    (λ e g. sym (split x k) ∙ ap₂ (λ (u v : ℕ). u * 2 ^ k + v) g e ∙ split y k)
+
 digits-split : (k x y r s : ℕ) → r < 2 ^ k → s < 2 ^ k → eqb (x * 2 ^ k + r) (y * 2 ^ k + s) ≡ (eqb r s && eqb x y)
 digits-split k x y r s p q =
     and-eqb (x * 2 ^ k + r) (y * 2 ^ k + s) r s x y
@@ -71,29 +77,42 @@ pub top-lt : (i : Bool) (k : ℕ) → digit i * 2 ^ k < 2 ^ suc k
 top-lt true k = omega (arith, pow-pos k, pow-suc 2 k)
 top-lt false k = omega (arith, pow-pos k, pow-suc 2 k)
 
-top-and : (i j : Bool) (k : ℕ) → eqb (bitAnd (digit i * 2 ^ k) (digit j * 2 ^ k)) (digit j * 2 ^ k) ≡ imp j i
-top-and true true k = eq-eqb _ _ (and-self (1 * 2 ^ k))
-top-and false true k = rw (zero-mul (2 ^ k)) (ne-eqb 0 (1 * 2 ^ k) (λ e. omega (arith, pow-pos k)))
-top-and true false k = rw (zero-mul (2 ^ k)) (eq-eqb _ _ (and-zero-r (1 * 2 ^ k)))
-top-and false false k = rw (zero-mul (2 ^ k)) refl
+-- a test, or its negation
+abbrev pub about : Bool → Bool → Bool
+about true t = not t
+about false t = t
 
-tops-and : (k g h : ℕ) (i j : Bool)
-    → eqb (bitAnd (g * 2 ^ suc k + digit i * 2 ^ k) (h * 2 ^ suc k + digit j * 2 ^ k)) (h * 2 ^ suc k + digit j * 2 ^ k)
-    ≡ (imp j i && eqb (bitAnd g h) h)
-tops-and k g h i j =
-    ap (λ (z : ℕ). eqb z (h * 2 ^ suc k + digit j * 2 ^ k)) (and-block (suc k) g h (digit i * 2 ^ k) (digit j * 2 ^ k) (top-lt i k) (top-lt j k))
-    ∙ digits-split (suc k) (bitAnd g h) h _ _ (le-lt k i j) (top-lt j k)
-    ∙ ap (λ (t : Bool). t && eqb (bitAnd g h) h) (top-and i j k)
-  where
-    le-lt : (k : ℕ) (i j : Bool) → bitAnd (digit i * 2 ^ k) (digit j * 2 ^ k) < 2 ^ suc k
-    le-lt k i j = omega (arith, and-le-l (digit i * 2 ^ k) (digit j * 2 ^ k), top-lt i k)
+top-lacks : (i j s : Bool) (k : ℕ) → eqb (digit j * 2 ^ k - bitAnd (digit i * 2 ^ k) (digit j * 2 ^ k)) (digit s * 2 ^ k) ≡ about s (imp j i)
+top-lacks true true true k = rw (and-self (1 * 2 ^ k)) (ne-eqb (1 * 2 ^ k - 1 * 2 ^ k) (1 * 2 ^ k) (λ e. omega (arith, pow-pos k)))
+top-lacks true true false k = rw (and-self (1 * 2 ^ k)) (eq-eqb (1 * 2 ^ k - 1 * 2 ^ k) (0 * 2 ^ k) (omega arith))
+top-lacks false true true k = rw (zero-mul (2 ^ k)) (eq-eqb (1 * 2 ^ k - 0) (1 * 2 ^ k) (omega arith))
+top-lacks false true false k = rw (zero-mul (2 ^ k)) (ne-eqb (1 * 2 ^ k - 0) 0 (λ e. omega (arith, pow-pos k)))
+top-lacks true false true k = rw (zero-mul (2 ^ k), and-zero-r (1 * 2 ^ k)) (ne-eqb 0 (1 * 2 ^ k) (λ e. omega (arith, pow-pos k)))
+top-lacks true false false k = rw (zero-mul (2 ^ k), and-zero-r (1 * 2 ^ k)) refl
+top-lacks false false true k = rw (zero-mul (2 ^ k)) (ne-eqb 0 (1 * 2 ^ k) (λ e. omega (arith, pow-pos k)))
+top-lacks false false false k = rw (zero-mul (2 ^ k)) refl
 
-pub tops-meet : (k : ℕ) (ks : List ℕ) (a q p : ℕ)
-    → eqb (bitAnd (aboveIn (k ∷ ks) q p 0) (aboveIn (k ∷ ks) a 0 0)) (aboveIn (k ∷ ks) a 0 0)
-    ≡ (imp (ltb 0 (a % 2 ^ suc k)) (ltb (p % 2 ^ suc k) (q % 2 ^ suc k))
-    && eqb (bitAnd (aboveIn ks (q / 2 ^ suc k) (p / 2 ^ suc k) 0) (aboveIn ks (a / 2 ^ suc k) 0 0)) (aboveIn ks (a / 2 ^ suc k) 0 0))
+blocks-lack : (k g h f : ℕ) (i j s : Bool)
+    → eqb (h * 2 ^ suc k + digit j * 2 ^ k - bitAnd (g * 2 ^ suc k + digit i * 2 ^ k) (h * 2 ^ suc k + digit j * 2 ^ k)) (f * 2 ^ suc k + digit s * 2 ^ k)
+    ≡ (about s (imp j i) && eqb (h - bitAnd g h) f)
+blocks-lack k g h f i j s =
+    let r : ℕ = bitAnd (digit i * 2 ^ k) (digit j * 2 ^ k) in
+    let most : bitAnd g h * 2 ^ suc k ≤ h * 2 ^ suc k = mul-le-mul-right (2 ^ suc k) (and-le-r g h) in
+    let whole : h - bitAnd g h + bitAnd g h ≡ h = omega (arith, and-le-r g h) in
+    let parts : (h - bitAnd g h) * 2 ^ suc k + bitAnd g h * 2 ^ suc k ≡ h * 2 ^ suc k = sym (add-mul (h - bitAnd g h) (bitAnd g h) (2 ^ suc k)) ∙ ap (λ (x : ℕ). x * 2 ^ suc k) whole in
+    let e : h * 2 ^ suc k + digit j * 2 ^ k - (bitAnd g h * 2 ^ suc k + r) ≡ (h - bitAnd g h) * 2 ^ suc k + (digit j * 2 ^ k - r)
+    = omega (arith, parts, most, and-le-r (digit i * 2 ^ k) (digit j * 2 ^ k)) in
+    ap (λ (z : ℕ). eqb (h * 2 ^ suc k + digit j * 2 ^ k - z) (f * 2 ^ suc k + digit s * 2 ^ k)) (and-block (suc k) g h (digit i * 2 ^ k) (digit j * 2 ^ k) (top-lt i k) (top-lt j k))
+    ∙ ap (λ (z : ℕ). eqb z (f * 2 ^ suc k + digit s * 2 ^ k)) e
+    ∙ digits-split (suc k) (h - bitAnd g h) f _ _ (omega (arith, top-lt j k)) (top-lt s k)
+    ∙ ap (λ (t : Bool). t && eqb (h - bitAnd g h) f) (top-lacks i j s k)
+
+pub tops-lack : (k : ℕ) (ks : List ℕ) (v q p e : ℕ)
+    → eqb (aboveIn (k ∷ ks) v 0 0 - bitAnd (aboveIn (k ∷ ks) q p 0) (aboveIn (k ∷ ks) v 0 0)) (aboveIn (k ∷ ks) e 0 0)
+    ≡ (about (ltb 0 (e % 2 ^ suc k)) (imp (ltb 0 (v % 2 ^ suc k)) (ltb (p % 2 ^ suc k) (q % 2 ^ suc k)))
+    && eqb (aboveIn ks (v / 2 ^ suc k) 0 0 - bitAnd (aboveIn ks (q / 2 ^ suc k) (p / 2 ^ suc k) 0) (aboveIn ks (v / 2 ^ suc k) 0 0)) (aboveIn ks (e / 2 ^ suc k) 0 0))
 unfolding aboveIn
-tops-meet k ks a q p =
-    tops-and k (aboveIn ks (q / 2 ^ suc k) (p / 2 ^ suc k) 0) (aboveIn ks (a / 2 ^ suc k) (0 / 2 ^ suc k) 0)
-    (ltb (p % 2 ^ suc k) (q % 2 ^ suc k + 0)) (ltb (0 % 2 ^ suc k) (a % 2 ^ suc k + 0))
+tops-lack k ks v q p e =
+    blocks-lack k (aboveIn ks (q / 2 ^ suc k) (p / 2 ^ suc k) 0) (aboveIn ks (v / 2 ^ suc k) (0 / 2 ^ suc k) 0) (aboveIn ks (e / 2 ^ suc k) (0 / 2 ^ suc k) 0)
+    (ltb (p % 2 ^ suc k) (q % 2 ^ suc k + 0)) (ltb (0 % 2 ^ suc k) (v % 2 ^ suc k + 0)) (ltb (0 % 2 ^ suc k) (e % 2 ^ suc k + 0))
     ∙ simp (zero-mod, zero-div, add-zero)

@@ -1,22 +1,20 @@
--- No syllable has two codes, by words: no top at which SC1, SC2 and their difference are all not 0 in its field.
--- Document 01, refusal 5. A law for every width.
-use Prim.Native.Nat.{ℕ, zero, suc, _+_, _*_, _/_, _%_, _^_, _<_}
+-- No syllable has two codes, or two settings of SC3, by words: no top at which two numbers and their difference are all not 0 in its field.
+-- Document 01, refusal 5, with document 02, request c. Laws for every width.
+use Prim.Native.Nat.{ℕ, zero, suc, _+_, _-_, _*_, _/_, _%_, _^_, _<_}
 use mathlib.Core.Path.{_≡_, refl, ap, ap₂, _∙_}
 use mathlib.Core.List.{List, [], _∷_}
-use mathlib.Core.Bool.{Bool, true, false, not, _&&_, _||_, Bool·not-not}
+use mathlib.Core.Bool.{Bool, true, false, not, _&&_, _||_, and-assoc, Bool·not-not}
 use native.Mathlib.Nat.{zero-mod, zero-div, add-zero, zero-mul}
 use native.Mathlib.Omega.{arith}
 use lib.Dec.{ltb, eqb, eqb·suc-zero}
 use lib.Pow.{pow-pos, high, low}
-use lib.Bits.{bitAnd, bitXor, and-le-l, and-self, and-zero-r, and-block, xor-mod, xor-shr, xor-self}
+use lib.Bits.{bitAnd, bitOr, bitXor, and-le-l, and-le-r, and-self, and-zero-r, and-block, or-add-and, xor-mod, xor-shr, xor-self}
 use borrow.Author.Tests.{lt-ltb, eq-eqb, ne-eqb}
 use Rattle.laws.specs.Bits.{digit}
 use Rattle.fields.specs.Fields.{aboveIn}
-use Rattle.fields.specs.Codes.{one, oneIn}
+use Rattle.fields.specs.Codes.{one, oneIn, clash, setBits, unmixedIn}
 use Rattle.fields.proofs.Blocks.{eqb-cong, zero-split, top-lt, xor-eq}
-
-unfoldable pub clash : List ℕ → ℕ → ℕ → ℕ
-clash ks a b = bitAnd (bitAnd (aboveIn ks a 0 0) (aboveIn ks b 0 0)) (aboveIn ks (bitXor a b) 0 0)
+use Rattle.fields.proofs.Sums.{and-not}
 
 -- a number is 0, or above it
 ltb-eqb : (a : ℕ) → ltb 0 a ≡ not (eqb a 0)
@@ -57,3 +55,25 @@ one-is (k ∷ ks) a b =
     (ltb (0 % 2 ^ suc k) (a % 2 ^ suc k + 0)) (ltb (0 % 2 ^ suc k) (b % 2 ^ suc k + 0)) (ltb (0 % 2 ^ suc k) (bitXor a b % 2 ^ suc k + 0))
     ∙ simp (zero-mod, zero-div, add-zero, xor-mod, xor-shr)
     (ap₂ (λ (u v : Bool). u && v) (field (a % 2 ^ suc k) (b % 2 ^ suc k)) (one-is ks (a / 2 ^ suc k) (b / 2 ^ suc k)))
+
+-- ---- all of refusal 5 in one word
+
+or-none : (x y : ℕ) → eqb (bitOr x y) 0 ≡ (eqb x 0 && eqb y 0)
+or-none zero y = refl
+or-none (suc x) y = ne-eqb (bitOr (suc x) y) 0 (λ e. omega (arith, or-add-and (suc x) y, and-le-r (suc x) y, e)) ∙ rw (eqb·suc-zero x)
+
+-- no one of e where a has none
+no-stray : (e a : ℕ) → e < 2 ^ 64 → a < 2 ^ 64 → eqb (bitAnd e (2 ^ 64 - 1 - a)) 0 ≡ eqb (bitAnd e a) e
+no-stray e a he ha =
+    ap (λ (x : ℕ). eqb x 0) (and-not 64 e a he ha)
+    ∙ eqb-cong (e - bitAnd e a) 0 (bitAnd e a) e (λ h. omega (arith, and-le-l e a)) (λ h. omega arith)
+
+pub unmixed-word : (ks : List ℕ) (a b e : ℕ) → a < 2 ^ 64 → e < 2 ^ 64
+    → eqb (bitOr (bitOr (clash ks a b) (clash ks (setBits a b e) (bitOr a b))) (bitAnd e (2 ^ 64 - 1 - a))) 0 ≡ unmixedIn ks a b e
+unfolding unmixedIn
+unmixed-word ks a b e ha he =
+    or-none (bitOr (clash ks a b) (clash ks (setBits a b e) (bitOr a b))) (bitAnd e (2 ^ 64 - 1 - a))
+    ∙ ap₂ (λ (x y : Bool). x && y)
+    (or-none (clash ks a b) (clash ks (setBits a b e) (bitOr a b)) ∙ ap₂ (λ (x y : Bool). x && y) (one-is ks a b) (one-is ks (setBits a b e) (bitOr a b)))
+    (no-stray e a he ha)
+    ∙ and-assoc (oneIn ks a b) (oneIn ks (setBits a b e) (bitOr a b)) (eqb (bitAnd e a) e)

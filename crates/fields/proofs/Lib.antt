@@ -6,8 +6,10 @@ pub mod Blocks
 pub mod Codes
 pub mod Lowest
 pub mod Turned
+pub mod Settings
 pub mod Search
 pub mod WordSum
 pub mod Syllables
+pub mod Mixing
 pub mod Reader
 pub mod Tested

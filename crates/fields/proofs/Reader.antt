@@ -1,10 +1,10 @@
--- The machine's definitions of search, of refusal 5 and of add are those over fields.
--- Document 01, 'One pulse', Search and Add; refusal 5. For every width.
+-- The machine's definitions of search and of add are those over fields.
+-- Document 01, 'One pulse', Search and Add; document 02, request c. For every width.
 use Prim.Native.Nat.{ℕ, zero, suc, _+_, _*_, _/_, _%_, _^_, _<_, min, max}
 use mathlib.Core.Path.{_≡_, refl, sym, ap, ap₂, _∙_}
 use mathlib.Core.Bool.{Bool, true, false, _&&_, _||_}
 use mathlib.Core.List.{List, [], _∷_}
-use mathlib.Core.Logic.{⊎-elim, _⊎_, inl, inr}
+use mathlib.Core.Logic.{⊎-elim, _⊎_}
 use native.Mathlib.Nat.{mod-one, div-one, zero-mod, mod-add-mod, add-mod-mod, add-zero}
 use native.Mathlib.Omega.{arith}
 use lib.Dec.{eqb}
@@ -14,63 +14,20 @@ use borrow.Author.Tests.{eqb-true}
 use Rattle.laws.specs.Bits.{bit, every}
 use Rattle.laws.specs.Lists.{all}
 use Rattle.laws.proofs.Digits.{Bit, off, on}
-use Rattle.laws.proofs.Bits.{digit-at, shifted, top-bit, number-is, every-like, every-eqb, and-left, and-right, and-bit, or-bit, bit-none, bits-same}
+use Rattle.laws.proofs.Bits.{or-cases, digit-at, shifted, top-bit, number-is, every-like, and-left, and-bit, or-bit, bit-none, bits-same}
 use Rattle.machine.specs.declared.Panel.{Panel}
 use Rattle.machine.specs.declared.Code.{Code}
 use Rattle.machine.specs.declared.Code.the-variants.{DontCare, Exact, Larger, Smaller}
-use Rattle.machine.specs.Machine.{Syllable, syllables, over}
-use Rattle.machine.specs.Search.{code, codeAt, eachCode, orExact, orLarger, orSmaller, oneCode, cared, readOver, satisfied}
+use Rattle.machine.specs.Machine.{syllables, over}
+use Rattle.machine.specs.Search.{code, cared, readOver, satisfied}
 use Rattle.machine.specs.Search as reader
 use Rattle.machine.specs.Pulse.{addend, sums, added}
 use Rattle.machine.proofs.Masks.{addend-is}
 use Rattle.fields.specs.Fields.{fields, addIn}
 use Rattle.fields.specs.Codes.{asks, one, oneIn, satisfiedIn}
 use Rattle.fields.proofs.Syllables.{place, syllables-are}
-
--- a register from bit lo up, and the syllable of k bits there
-abbrev from : ℕ → ℕ → ℕ
-from lo x = x / 2 ^ lo
-
-abbrev at : ℕ → ℕ → Syllable
-at lo k = record { low = lo; width = k }
-
--- the code of a bit, from what stands above the syllable's lowest bit
-codes : (p : Panel) (lo j : ℕ) → codeAt p (lo + j) ≡ code (bit (p .sc1 / 2 ^ lo) j) (bit (p .sc2 / 2 ^ lo) j)
-codes p lo j = ap₂ code (shifted (p .sc1) lo j) (shifted (p .sc2) lo j)
-
-or-cases : (x y : Bool) → (x || y) ≡ true → (x ≡ true) ⊎ (y ≡ true)
-or-cases true y h = inl refl
-or-cases false y h = inr h
-
--- ---- one code
-
-or-is : {x y : ℕ} → Bit x → Bit y → (orExact (code x y) ≡ eqb x 0) × (orLarger (code x y) ≡ eqb y 0) × (orSmaller (code x y) ≡ eqb x y)
-or-is off off = (refl, refl, refl)
-or-is off on = (refl, refl, refl)
-or-is on off = (refl, refl, refl)
-or-is on on = (refl, refl, refl)
-
-every-none : (k x : ℕ) → every k (λ j. eqb (bit x j) 0) ≡ eqb (x % 2 ^ k) 0
-every-none k x = every-like k _ _ (λ j g. ap (eqb (bit x j)) (sym (bit-none j))) ∙ every-eqb k x 0 ∙ ap (eqb (x % 2 ^ k)) (zero-mod (2 ^ k))
-
-module _ (p : Panel) (lo k : ℕ) where
-  abbrev a : ℕ
-  a = from lo (p .sc1)
-
-  abbrev b : ℕ
-  b = from lo (p .sc2)
-
-  each-like : (test : Code → Bool) → eachCode p (at lo k) test ≡ every k (λ j. test (code (bit a j) (bit b j)))
-  each-like test = every-like k _ _ (λ j g. ap test (codes p lo j))
-
-  oneCode-is : oneCode p (at lo k) ≡ one (a % 2 ^ k) (b % 2 ^ k)
-  unfolding oneCode
-  oneCode-is =
-      ap₂ (λ (x z : Bool). x || z)
-      (each-like orExact ∙ every-like k _ _ (λ j g. or-is (digit-at a j) (digit-at b j) .0) ∙ every-none k a)
-      (ap₂ (λ (x z : Bool). x || z)
-      (each-like orLarger ∙ every-like k _ _ (λ j g. or-is (digit-at a j) (digit-at b j) .1) ∙ every-none k b)
-      (each-like orSmaller ∙ every-like k _ _ (λ j g. or-is (digit-at a j) (digit-at b j) .2) ∙ every-eqb k a b))
+use Rattle.fields.proofs.Mixing.{from, at, codes}
+use Rattle.fields.proofs.Settings.{Setting, none, least, most, Unmixed, first, rest}
 
 -- ---- a test of every bit's code, in a syllable of one code
 
@@ -157,11 +114,34 @@ care on off on = refl
 care on on off = refl
 care on on on = refl
 
-asks-is : (a b u v : ℕ) → byCode (λ d. reader.asks d u v) a b ≡ asks a b u v
+asks-is : (a b u v : ℕ) → byCode (λ d. reader.asks d false u v) a b ≡ asks a b 0 u v
 asks-is zero zero u v = refl
 asks-is zero (suc b) u v = refl
 asks-is (suc a) zero u v = refl
 asks-is (suc a) (suc b) u v = refl
+
+-- over an exact or don't-care bit it is all one what SC3 has, and elsewhere it has what SC1 has
+equal-is : {x y : ℕ} (u v : ℕ) → Bit x → Bit y → reader.asks (code x y) (eqb x 1) u v ≡ reader.asks (code x y) true u v
+equal-is u v off off = refl
+equal-is u v off on = refl
+equal-is u v on off = refl
+equal-is u v on on = refl
+
+all-equal : (k a b e u v : ℕ) {x : ℕ} → a % 2 ^ k ≡ x → e % 2 ^ k ≡ x → one (a % 2 ^ k) (b % 2 ^ k) ≡ true
+    → every k (λ j. reader.asks (code (bit a j) (bit b j)) (eqb (bit e j) 1) u v) ≡ byCode (λ d. reader.asks d true u v) (a % 2 ^ k) (b % 2 ^ k)
+all-equal k a b e u v p r h =
+    every-like k _ _ (λ j g. rw (bits-same k e a (r ∙ sym p) j g) (equal-is u v (digit-at a j) (digit-at b j)))
+    ∙ every-code (λ d. reader.asks d true u v) refl k a b h
+
+-- every bit's code with what SC3 has there, by the setting of the syllable
+by-setting : (k a b e u v : ℕ) {x y z : ℕ} → a % 2 ^ k ≡ x → b % 2 ^ k ≡ y → e % 2 ^ k ≡ z → Setting x y z → one x y ≡ true
+    → every k (λ j. reader.asks (code (bit a j) (bit b j)) (eqb (bit e j) 1) u v) ≡ asks x y z u v
+by-setting k a b e u v p q r (none x y) h =
+    every-like k _ _ (λ j g. rw (bits-same k e 0 (r ∙ sym (zero-mod (2 ^ k))) j g ∙ bit-none j) refl)
+    ∙ every-code (λ d. reader.asks d false u v) refl k a b (rw (p, q) h)
+    ∙ rw (p, q) (asks-is x y u v)
+by-setting k a b e u v p q r (least x) h = all-equal k a b e u v p r (rw (p, q) h) ∙ rw (p, q) refl
+by-setting k a b e u v p q r (most x) h = all-equal k a b e u v p r (rw (p, q) h) ∙ rw (p, q) refl
 
 read-is : (p : Panel) (lo k x : ℕ) → readOver p (at lo k) x ≡ bitAnd (from lo x) (bitOr (from lo (p .sc1)) (from lo (p .sc2))) % 2 ^ k
 read-is p lo k x =
@@ -172,50 +152,36 @@ read-is p lo k x =
 satisfied-is : (p : Panel) (lo k w : ℕ)
     → let a = from lo (p .sc1) in
     let b = from lo (p .sc2) in
-    one (a % 2 ^ k) (b % 2 ^ k) ≡ true
+    let e = from lo (p .sc3) in
+    one (a % 2 ^ k) (b % 2 ^ k) ≡ true → Setting (a % 2 ^ k) (b % 2 ^ k) (e % 2 ^ k)
     → satisfied p w (at lo k)
-    ≡ asks (a % 2 ^ k) (b % 2 ^ k) (bitAnd (from lo w) (bitOr a b) % 2 ^ k) (bitAnd (from lo (p .comp)) (bitOr a b) % 2 ^ k)
+    ≡ asks (a % 2 ^ k) (b % 2 ^ k) (e % 2 ^ k) (bitAnd (from lo w) (bitOr a b) % 2 ^ k) (bitAnd (from lo (p .comp)) (bitOr a b) % 2 ^ k)
 unfolding satisfied
-satisfied-is p lo k w h =
+satisfied-is p lo k w h s =
     let a = from lo (p .sc1) in
     let b = from lo (p .sc2) in
-    let test : Code → Bool = λ d. reader.asks d (readOver p (at lo k) w) (readOver p (at lo k) (p .comp)) in
-    each-like p lo k test
-    ∙ every-code test refl k a b h
-    ∙ asks-is (a % 2 ^ k) (b % 2 ^ k) _ _
-    ∙ ap₂ (asks (a % 2 ^ k) (b % 2 ^ k)) (read-is p lo k w) (read-is p lo k (p .comp))
+    let e = from lo (p .sc3) in
+    every-like k _ _ (λ j g. rw (codes p lo j, shifted (p .sc3) lo j) refl)
+    ∙ by-setting k a b e (readOver p (at lo k) w) (readOver p (at lo k) (p .comp)) refl refl refl s h
+    ∙ ap₂ (asks (a % 2 ^ k) (b % 2 ^ k) (e % 2 ^ k)) (read-is p lo k w) (read-is p lo k (p .comp))
 
--- ---- all syllables
+-- ---- all syllables of a search that 5 lets pass
 
-ones-are : (p : Panel) (lo : ℕ) (ks : List ℕ) → all (oneCode p) (place lo ks) ≡ oneIn ks (p .sc1 / 2 ^ lo) (p .sc2 / 2 ^ lo)
-unfolding all place oneIn
-ones-are p lo [] = refl
-ones-are p lo (k ∷ ks) =
-    rw (shr-shr (p .sc1) lo (suc k), shr-shr (p .sc2) lo (suc k))
-    (ap₂ (λ (x y : Bool). x && y) (oneCode-is p lo (suc k)) (ones-are p (lo + suc k) ks))
-
-all-are : (p : Panel) (w lo : ℕ) (ks : List ℕ) → oneIn ks (p .sc1 / 2 ^ lo) (p .sc2 / 2 ^ lo) ≡ true
-    → all (satisfied p w) (place lo ks) ≡ satisfiedIn ks (p .sc1 / 2 ^ lo) (p .sc2 / 2 ^ lo) (w / 2 ^ lo) (p .comp / 2 ^ lo)
+all-are : (p : Panel) (w lo : ℕ) (ks : List ℕ) → Unmixed ks (p .sc1 / 2 ^ lo) (p .sc2 / 2 ^ lo) (p .sc3 / 2 ^ lo)
+    → all (satisfied p w) (place lo ks) ≡ satisfiedIn ks (p .sc1 / 2 ^ lo) (p .sc2 / 2 ^ lo) (p .sc3 / 2 ^ lo) (w / 2 ^ lo) (p .comp / 2 ^ lo)
 unfolding all place oneIn satisfiedIn
-all-are p w lo [] h = refl
-all-are p w lo (k ∷ ks) h =
-    rw (shr-shr (p .sc1) lo (suc k), shr-shr (p .sc2) lo (suc k), shr-shr w lo (suc k), shr-shr (p .comp) lo (suc k))
-    (ap₂ (λ (x y : Bool). x && y) (satisfied-is p lo (suc k) w (and-left _ _ h))
+all-are p w lo [] u = refl
+all-are p w lo (k ∷ ks) u =
+    rw (shr-shr (p .sc1) lo (suc k), shr-shr (p .sc2) lo (suc k), shr-shr (p .sc3) lo (suc k), shr-shr w lo (suc k), shr-shr (p .comp) lo (suc k))
+    (ap₂ (λ (x y : Bool). x && y) (satisfied-is p lo (suc k) w (and-left _ _ (u .codes)) (first k ks _ _ _ u))
     (all-are p w (lo + suc k) ks
-    (rw (shr-shr (p .sc1) lo (suc k), shr-shr (p .sc2) lo (suc k)) at (and-right (one (p .sc1 / 2 ^ lo % 2 ^ suc k) (p .sc2 / 2 ^ lo % 2 ^ suc k)) _ h))))
+    (rw (shr-shr (p .sc1) lo (suc k), shr-shr (p .sc2) lo (suc k), shr-shr (p .sc3) lo (suc k)) at (rest k ks _ _ _ u))))
 
--- refusal 5, and a search that passes it
-pub one-code-is : (n : ℕ) (p : Panel) → all (oneCode p) (syllables n (p .sdr)) ≡ oneIn (fields n (p .sdr)) (p .sc1) (p .sc2)
-one-code-is n p =
-    ap (all (oneCode p)) (syllables-are n (p .sdr))
-    ∙ ones-are p 0 (fields n (p .sdr))
-    ∙ ap₂ (oneIn (fields n (p .sdr))) (div-one (p .sc1)) (div-one (p .sc2))
-
-pub all-satisfied-is : (n : ℕ) (p : Panel) (w : ℕ) → oneIn (fields n (p .sdr)) (p .sc1) (p .sc2) ≡ true
-    → all (satisfied p w) (syllables n (p .sdr)) ≡ satisfiedIn (fields n (p .sdr)) (p .sc1) (p .sc2) w (p .comp)
-all-satisfied-is n p w h =
+pub all-satisfied-is : (n : ℕ) (p : Panel) (w : ℕ) → Unmixed (fields n (p .sdr)) (p .sc1) (p .sc2) (p .sc3)
+    → all (satisfied p w) (syllables n (p .sdr)) ≡ satisfiedIn (fields n (p .sdr)) (p .sc1) (p .sc2) (p .sc3) w (p .comp)
+all-satisfied-is n p w u =
     ap (all (satisfied p w)) (syllables-are n (p .sdr))
-    ∙ rw (div-one (p .sc1), div-one (p .sc2), div-one w, div-one (p .comp)) at (all-are p w 0 (fields n (p .sdr)) (rw (div-one (p .sc1), div-one (p .sc2)) h))
+    ∙ rw (div-one (p .sc1), div-one (p .sc2), div-one (p .sc3), div-one w, div-one (p .comp)) at (all-are p w 0 (fields n (p .sdr)) (rw (div-one (p .sc1), div-one (p .sc2), div-one (p .sc3)) u))
 
 -- ---- add
 

@@ -8,14 +8,14 @@ use native.Mathlib.Omega.{arith}
 use lib.Dec.{eqb}
 use lib.Arith.{bin-ind}
 use lib.Pow.{pow-pos, pow-mono}
-use lib.Bits.{bitAnd, bitOr, bitXor, differ, and-le-l, and-le-r, and-zero-r, xor-lt, or-lt, xor-self, xor-comm}
+use lib.Bits.{bitAnd, bitOr, bitXor, differ, and-le-l, and-le-r, and-zero-r, xor-lt, or-lt, xor-self, xor-comm, xor-zero-r}
 use Rattle.laws.proofs.Digits.{Bit, off, on, low, and-half, and-low, xor-half, xor-low}
 use Rattle.laws.proofs.Bits.{digit-at, same-bits, and-bit, or-bit, xor-bit, not-bit}
 use Rattle.fields.specs.Fields.{fields, addIn, aboveIn}
-use Rattle.fields.specs.Codes.{oneIn, satisfiedIn}
+use Rattle.fields.specs.Codes.{oneIn}
 use Rattle.fields.proofs.Shape.{bits-fields, above-lt}
-use Rattle.fields.proofs.Blocks.{halves, xor-eq, eqb-cong}
-use Rattle.fields.proofs.Turned.{exact, larger, limit}
+use Rattle.fields.proofs.Blocks.{halves, eqb-cong}
+use Rattle.fields.proofs.Turned.{exact, larger, limit, plainIn}
 use Rattle.fields.proofs.Search.{swap, majority, limit-lt, search-word}
 
 -- ---- a mask taken into both sides of an xor
@@ -43,7 +43,11 @@ spread = bin-ind (λ (m : ℕ). (w c f : ℕ) → bitXor (bitAnd w (bitAnd c m))
     (λ w c f. simp (and-zero-r))
     (λ m ih w c f. halves (simp (and-half, xor-half) (ih (w / 2) (c / 2) (f / 2))) (simp (and-low, xor-low) (spread-low (low w) (low c) (low f) (low m))))
 
--- ---- no top that is asked for fails to carry
+-- an xor undone
+twice : (y x : ℕ) → bitXor y (bitXor y x) ≡ x
+twice y x = ap (bitXor y) (xor-comm y x) ∙ swap y x y ∙ ap (bitXor x) (xor-self y) ∙ xor-zero-r x
+
+-- ---- the tops that are asked for and fail to carry
 
 carries-low : {a u c d : ℕ} → Bit a → Bit u → Bit c → Bit d
     → differ (min (min (differ a u) d) (differ c a)) (min d (1 - a)) ≡ min d (1 - max (min a u) (min (max a u) c))
@@ -84,13 +88,14 @@ module _ (a u c d : ℕ) (ha : a < 2 ^ 64) (hu : u < 2 ^ 64) (hc : c < 2 ^ 64) (
       (carries-low (digit-at a i) (digit-at u i) (digit-at c i) (digit-at d i)))
       ∙ mod-eq-of-lt hz
 
-  pub none-fails : eqb (bitAnd (bitAnd (bitXor a u) d) (bitXor c a)) (bitAnd d (2 ^ 64 - 1 - a)) ≡ eqb (bitAnd d (2 ^ 64 - 1 - g)) 0
-  none-fails =
+  -- those that fail are the tops of f
+  pub these-fail : (f : ℕ) → eqb (bitAnd (bitAnd (bitXor a u) d) (bitXor c a)) (bitXor (bitAnd d (2 ^ 64 - 1 - a)) f) ≡ eqb (bitAnd d (2 ^ 64 - 1 - g)) f
+  these-fail f =
       let x = bitAnd (bitAnd (bitXor a u) d) (bitXor c a) in
       let y = bitAnd d (2 ^ 64 - 1 - a) in
-      eqb-cong x y (bitAnd d (2 ^ 64 - 1 - g)) 0
-      (λ e. sym carries ∙ ap (λ (z : ℕ). bitXor z y) e ∙ xor-self y)
-      (λ e. xor-eq x y (carries ∙ e))
+      eqb-cong x (bitXor y f) (bitAnd d (2 ^ 64 - 1 - g)) f
+      (λ e. sym carries ∙ ap (λ (z : ℕ). bitXor z y) e ∙ xor-comm (bitXor y f) y ∙ twice y f)
+      (λ e. sym (twice y x) ∙ ap (bitXor y) (xor-comm y x ∙ carries ∙ e))
 
 -- ---- the test
 
@@ -103,23 +108,23 @@ testOf care flip limit low need w =
 abbrev pub flipOf : ℕ → ℕ → ℕ → ℕ → ℕ
 flipOf n a b c = bitXor (2 ^ n - 1) (bitXor (larger a b) (bitAnd c (exact a b)))
 
-test-is : (care flip k l d w : ℕ) → k < 2 ^ 64 → d < 2 ^ 64 → bitXor (bitAnd w care) flip < 2 ^ 64
+test-is : (care flip k l d w f : ℕ) → k < 2 ^ 64 → d < 2 ^ 64 → bitXor (bitAnd w care) flip < 2 ^ 64
     → let u = bitXor (bitAnd w care) flip in
-    eqb (testOf care flip k l d w) (bitAnd d (2 ^ 64 - 1 - k)) ≡ eqb (bitAnd d (2 ^ 64 - 1 - majority k u ((bitAnd k l + bitAnd u l) % 2 ^ 64))) 0
-test-is care flip k l d w hk hd hu =
+    eqb (testOf care flip k l d w) (bitXor (bitAnd d (2 ^ 64 - 1 - k)) f) ≡ eqb (bitAnd d (2 ^ 64 - 1 - majority k u ((bitAnd k l + bitAnd u l) % 2 ^ 64))) f
+test-is care flip k l d w f hk hd hu =
     let x = bitAnd w care in
     let u = bitXor x flip in
     let turn : bitXor x (bitXor flip k) ≡ bitXor k u = ap (bitXor x) (xor-comm flip k) ∙ swap x k flip in
-    ap₂ (λ (y z : ℕ). eqb (bitAnd y (bitXor ((bitAnd k l + z) % 2 ^ 64) k)) (bitAnd d (2 ^ 64 - 1 - k)))
+    ap₂ (λ (y z : ℕ). eqb (bitAnd y (bitXor ((bitAnd k l + z) % 2 ^ 64) k)) (bitXor (bitAnd d (2 ^ 64 - 1 - k)) f))
     (spread d w care (bitXor flip k) ∙ ap (λ (y : ℕ). bitAnd y d) turn) (spread l w care flip)
-    ∙ none-fails k u ((bitAnd k l + bitAnd u l) % 2 ^ 64) d hk hu (mod-lt (bitAnd k l + bitAnd u l) (pow-pos 64)) hd
+    ∙ these-fail k u ((bitAnd k l + bitAnd u l) % 2 ^ 64) d hk hu (mod-lt (bitAnd k l + bitAnd u l) (pow-pos 64)) hd f
 
 module _ (n t : ℕ) (pos : 0 < n) (fits : n ≤ 64) (ht : t < 2 ^ n) (top : t / 2 ^ (n - 1) % 2 ≡ 1) where
-  pub tested-word : (a b c w : ℕ) → a < 2 ^ n → b < 2 ^ n → oneIn (fields n t) a b ≡ true
+  pub tested-word : (a b e c w : ℕ) → a < 2 ^ n → b < 2 ^ n → oneIn (fields n t) a b ≡ true
       → let k = limit a b c (addIn (fields n t) (exact a b) (2 ^ n - 1) 0) in
       let need = aboveIn (fields n t) (bitOr a b) 0 0 in
-      eqb (testOf (bitOr a b) (flipOf n a b c) k (2 ^ 64 - 1 - t) need w) (bitAnd need (2 ^ 64 - 1 - k)) ≡ satisfiedIn (fields n t) a b w c
-  tested-word a b c w ha hb one =
+      eqb (testOf (bitOr a b) (flipOf n a b c) k (2 ^ 64 - 1 - t) need w) (bitXor (bitAnd need (2 ^ 64 - 1 - k)) (aboveIn (fields n t) e 0 0)) ≡ plainIn (fields n t) a b e w c
+  tested-word a b e c w ha hb one =
       let big : 2 ^ n ≤ 2 ^ 64 = pow-mono fits in
       let k = limit a b c (addIn (fields n t) (exact a b) (2 ^ n - 1) 0) in
       let need = aboveIn (fields n t) (bitOr a b) 0 0 in
@@ -132,5 +137,5 @@ module _ (n t : ℕ) (pos : 0 < n) (fits : n ≤ 64) (ht : t < 2 ^ n) (top : t /
       let ones : 2 ^ n - 1 < 2 ^ n = omega (arith, pow-pos n) in
       let cared : bitAnd w (bitOr a b) < 2 ^ n = omega (arith, and-le-r w (bitOr a b), or-lt n a b ha hb) in
       let hu : bitXor (bitAnd w (bitOr a b)) (flipOf n a b c) < 2 ^ n = xor-lt n _ _ cared (xor-lt n (2 ^ n - 1) _ ones tail) in
-      test-is (bitOr a b) (flipOf n a b c) k (2 ^ 64 - 1 - t) need w (omega arith) (omega arith) (omega arith)
-      ∙ search-word n t pos fits ht top a b c w ha hb one
+      test-is (bitOr a b) (flipOf n a b c) k (2 ^ 64 - 1 - t) need w (aboveIn (fields n t) e 0 0) (omega arith) (omega arith) (omega arith)
+      ∙ search-word n t pos fits ht top a b e c w ha hb one

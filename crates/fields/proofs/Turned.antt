@@ -14,9 +14,9 @@ use lib.Bits.{bitAnd, bitOr, bitXor, xor-add-and, and-zero-r, or-zero-r, xor-zer
 use borrow.Author.Tests.{lt-ltb, eqb-true}
 use Rattle.laws.proofs.Bits.{and-left, and-right}
 use Rattle.fields.specs.Fields.{bits, addIn, aboveIn}
-use Rattle.fields.specs.Codes.{asks, one, oneIn, satisfiedIn}
+use Rattle.fields.specs.Codes.{one, oneIn}
 use Rattle.fields.proofs.Above.{ltb-cong}
-use Rattle.fields.proofs.Blocks.{absorb, imp, tops-meet}
+use Rattle.fields.proofs.Blocks.{absorb, imp, about, tops-lack}
 use Rattle.fields.proofs.Lowest.{below-lowest}
 
 -- the bits of code exact, and of code larger
@@ -58,12 +58,19 @@ under w a = simp (xor-zero-r) at (absorb a w 0)
 others : (w a : ℕ) → bitXor (bitAnd w a) a + bitAnd w a ≡ a
 others w a = omega (arith, xor-add-and (bitAnd w a) a, under w a)
 
+-- what a field of one code asks where SC3 has no one in it
+abbrev pub plain : ℕ → ℕ → ℕ → ℕ → Bool
+plain zero zero w c = true
+plain zero (suc b) w c = eqb w c
+plain (suc a) zero w c = ltb c w
+plain (suc a) (suc b) w c = ltb w c
+
 decide : (a b x y v q p : ℕ) → one a b ≡ true
     → (a ≡ 0 → v ≡ b) → (b ≡ 0 → v ≡ a) → (a ≡ b → v ≡ a)
     → (a ≡ 0 → 0 < b → ltb p q ≡ eqb x y)
     → (b ≡ 0 → ltb p q ≡ ltb y x)
     → (a ≡ b → ltb p q ≡ ltb x y)
-    → asks a b x y ≡ imp (ltb 0 v) (ltb p q)
+    → plain a b x y ≡ imp (ltb 0 v) (ltb p q)
 decide zero zero x y v q p h va vb vs e g s = sym (simp (va refl))
 decide zero (suc b) x y v q p h va vb vs e g s = sym (simp (va refl, lt-ltb 0 (suc b) (omega arith), e refl (omega arith)))
 decide (suc a) zero x y v q p h va vb vs e g s = sym (simp (vb refl, lt-ltb 0 (suc a) (omega arith), g refl))
@@ -92,7 +99,7 @@ unfolding turned limit
 by-smaller a w c z = simp (and-self, or-self, xor-self, and-zero-r, xor-zero-r)
 
 field : (k a b w c : ℕ) → one a b ≡ true → b < 2 ^ k
-    → asks a b (bitAnd w (bitOr a b)) (bitAnd c (bitOr a b)) ≡ imp (ltb 0 (bitOr a b)) (ltb (turned a b w c) (limit a b c ((exact a b + (2 ^ k - 1)) % 2 ^ k)))
+    → plain a b (bitAnd w (bitOr a b)) (bitAnd c (bitOr a b)) ≡ imp (ltb 0 (bitOr a b)) (ltb (turned a b w c) (limit a b c ((exact a b + (2 ^ k - 1)) % 2 ^ k)))
 field k a b w c h g =
     decide a b (bitAnd w (bitOr a b)) (bitAnd c (bitOr a b)) (bitOr a b) (limit a b c ((exact a b + (2 ^ k - 1)) % 2 ^ k)) (turned a b w c) h
     (λ e. ap (λ (x : ℕ). bitOr x b) e) (λ e. ap (bitOr a) e ∙ or-zero-r a) (λ e. ap (bitOr a) (sym e) ∙ or-self a)
@@ -134,26 +141,34 @@ module _ (k : ℕ) (ks : List ℕ) (x : ℕ) where
 
 head : (k : ℕ) (ks : List ℕ) (a b w c : ℕ) → one (a % 2 ^ suc k) (b % 2 ^ suc k) ≡ true
     → imp (ltb 0 (bitOr a b % 2 ^ suc k)) (ltb (turned a b w c % 2 ^ suc k) (limit a b c (lessIn (k ∷ ks) (exact a b)) % 2 ^ suc k))
-    ≡ asks (a % 2 ^ suc k) (b % 2 ^ suc k) (bitAnd w (bitOr a b) % 2 ^ suc k) (bitAnd c (bitOr a b) % 2 ^ suc k)
+    ≡ plain (a % 2 ^ suc k) (b % 2 ^ suc k) (bitAnd w (bitOr a b) % 2 ^ suc k) (bitAnd c (bitOr a b) % 2 ^ suc k)
 head k ks a b w c h =
     let e : lessIn (k ∷ ks) (exact a b) % 2 ^ suc k ≡ (exact (a % 2 ^ suc k) (b % 2 ^ suc k) + (2 ^ suc k - 1)) % 2 ^ suc k
     = less-mod k ks (exact a b) ∙ ap (λ (z : ℕ). (z + (2 ^ suc k - 1)) % 2 ^ suc k) (xor-mod b (bitAnd a b) (suc k) ∙ ap (bitXor (b % 2 ^ suc k)) (and-mod a b (suc k))) in
     ap₂ imp (ap (ltb 0) (or-mod a b (suc k))) (ap₂ ltb (turned-mod (suc k) a b w c) (limit-mod (suc k) a b c (lessIn (k ∷ ks) (exact a b)) ∙ ap (limit (a % 2 ^ suc k) (b % 2 ^ suc k) (c % 2 ^ suc k)) e))
     ∙ sym (field (suc k) (a % 2 ^ suc k) (b % 2 ^ suc k) (w % 2 ^ suc k) (c % 2 ^ suc k) h (mod-lt b (pow-pos (suc k))))
-    ∙ sym (ap₂ (asks (a % 2 ^ suc k) (b % 2 ^ suc k)) (and-mod w (bitOr a b) (suc k) ∙ ap (bitAnd (w % 2 ^ suc k)) (or-mod a b (suc k))) (and-mod c (bitOr a b) (suc k) ∙ ap (bitAnd (c % 2 ^ suc k)) (or-mod a b (suc k))))
+    ∙ sym (ap₂ (plain (a % 2 ^ suc k) (b % 2 ^ suc k)) (and-mod w (bitOr a b) (suc k) ∙ ap (bitAnd (w % 2 ^ suc k)) (or-mod a b (suc k))) (and-mod c (bitOr a b) (suc k) ∙ ap (bitAnd (c % 2 ^ suc k)) (or-mod a b (suc k))))
 
-abbrev pub meets : List ℕ → ℕ → ℕ → ℕ → Bool
-meets ks q p v = eqb (bitAnd (aboveIn ks q p 0) (aboveIn ks v 0 0)) (aboveIn ks v 0 0)
+-- all fields are satisfied, or not satisfied where e has a one
+unfoldable pub plainIn : List ℕ → ℕ → ℕ → ℕ → ℕ → ℕ → Bool
+plainIn [] a b e w c = true
+plainIn (k ∷ ks) a b e w c =
+    about (ltb 0 (e % 2 ^ suc k)) (plain (a % 2 ^ suc k) (b % 2 ^ suc k) (bitAnd w (bitOr a b) % 2 ^ suc k) (bitAnd c (bitOr a b) % 2 ^ suc k))
+    && plainIn ks (a / 2 ^ suc k) (b / 2 ^ suc k) (e / 2 ^ suc k) (w / 2 ^ suc k) (c / 2 ^ suc k)
 
-pub match-is : (ks : List ℕ) (a b w c : ℕ) → oneIn ks a b ≡ true
-    → meets ks (limit a b c (lessIn ks (exact a b))) (turned a b w c) (bitOr a b) ≡ satisfiedIn ks a b w c
-unfolding satisfiedIn oneIn aboveIn
-match-is [] a b w c h = refl
-match-is (k ∷ ks) a b w c h =
+-- of the tops that v asks for, those at which q is not larger than p are those of the fields in which e has a one
+abbrev pub lacks : List ℕ → ℕ → ℕ → ℕ → ℕ → Bool
+lacks ks q p v e = eqb (aboveIn ks v 0 0 - bitAnd (aboveIn ks q p 0) (aboveIn ks v 0 0)) (aboveIn ks e 0 0)
+
+pub match-is : (ks : List ℕ) (a b e w c : ℕ) → oneIn ks a b ≡ true
+    → lacks ks (limit a b c (lessIn ks (exact a b))) (turned a b w c) (bitOr a b) e ≡ plainIn ks a b e w c
+unfolding plainIn oneIn aboveIn
+match-is [] a b f w c h = refl
+match-is (k ∷ ks) a b f w c h =
     let e : lessIn (k ∷ ks) (exact a b) / 2 ^ suc k ≡ lessIn ks (exact (a / 2 ^ suc k) (b / 2 ^ suc k))
     = less-div k ks (exact a b) ∙ ap (lessIn ks) (xor-shr b (bitAnd a b) (suc k) ∙ ap (bitXor (b / 2 ^ suc k)) (and-shr a b (suc k))) in
-    tops-meet k ks (bitOr a b) (limit a b c (lessIn (k ∷ ks) (exact a b))) (turned a b w c)
-    ∙ ap₂ (λ (x y : Bool). x && y) (head k ks a b w c (and-left _ _ h))
-    (ap₂ (λ (x y : ℕ). meets ks x y (bitOr a b / 2 ^ suc k)) (limit-shr (suc k) a b c (lessIn (k ∷ ks) (exact a b)) ∙ ap (limit (a / 2 ^ suc k) (b / 2 ^ suc k) (c / 2 ^ suc k)) e) (turned-shr (suc k) a b w c)
-    ∙ ap (λ (x : ℕ). meets ks (limit (a / 2 ^ suc k) (b / 2 ^ suc k) (c / 2 ^ suc k) (lessIn ks (exact (a / 2 ^ suc k) (b / 2 ^ suc k)))) (turned (a / 2 ^ suc k) (b / 2 ^ suc k) (w / 2 ^ suc k) (c / 2 ^ suc k)) x) (or-shr a b (suc k))
-    ∙ match-is ks (a / 2 ^ suc k) (b / 2 ^ suc k) (w / 2 ^ suc k) (c / 2 ^ suc k) (and-right (one (a % 2 ^ suc k) (b % 2 ^ suc k)) _ h))
+    tops-lack k ks (bitOr a b) (limit a b c (lessIn (k ∷ ks) (exact a b))) (turned a b w c) f
+    ∙ ap₂ (λ (x y : Bool). about (ltb 0 (f % 2 ^ suc k)) x && y) (head k ks a b w c (and-left _ _ h))
+    (ap₂ (λ (x y : ℕ). lacks ks x y (bitOr a b / 2 ^ suc k) (f / 2 ^ suc k)) (limit-shr (suc k) a b c (lessIn (k ∷ ks) (exact a b)) ∙ ap (limit (a / 2 ^ suc k) (b / 2 ^ suc k) (c / 2 ^ suc k)) e) (turned-shr (suc k) a b w c)
+    ∙ ap (λ (x : ℕ). lacks ks (limit (a / 2 ^ suc k) (b / 2 ^ suc k) (c / 2 ^ suc k) (lessIn ks (exact (a / 2 ^ suc k) (b / 2 ^ suc k)))) (turned (a / 2 ^ suc k) (b / 2 ^ suc k) (w / 2 ^ suc k) (c / 2 ^ suc k)) x (f / 2 ^ suc k)) (or-shr a b (suc k))
+    ∙ match-is ks (a / 2 ^ suc k) (b / 2 ^ suc k) (f / 2 ^ suc k) (w / 2 ^ suc k) (c / 2 ^ suc k) (and-right (one (a % 2 ^ suc k) (b % 2 ^ suc k)) _ h))

@@ -18,7 +18,7 @@ use Rattle.job_plans.specs.Places.{noBit}
 abbrev pub raising : Bool → Bool → Lines
 raising s m = record { search = s; read = false; write = false; add = false; multiwrite = false; multiadd = m; complement = false }
 
--- a command: its lines, then COMP, SDR, SC2, MOR, key, care and target; SC1 and the address are 0 in every one
+-- a command: its lines, then COMP, SDR, SC2, MOR, key, care and target; SC1, the address and SC3 are 0 in every one. 02 c: "Jobs set it to 0."
 abbrev pub order : Lines → ℕ → ℕ → ℕ → ℕ → ℕ → ℕ → ℕ → Command
 order lines comp sdr sc2 mor key care target = record { panel = panelOf (comp ∷ sdr ∷ 0 ∷ sc2 ∷ mor ∷ key ∷ care ∷ target ∷ []); lines = lines }
 

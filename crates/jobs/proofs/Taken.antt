@@ -1,8 +1,7 @@
 -- The command of a job that number 8 does not turn down is never refused as a pulse, on a machine that 1 to 3 do not.
-use Prim.Native.Nat.{ℕ, zero, suc, _+_, _-_, _*_, _%_, _^_, _≤_, _<_}
+use Prim.Native.Nat.{ℕ, _+_, _-_, _*_, _%_, _^_, _≤_, _<_}
 use mathlib.Core.Path.{_≡_, refl}
 use mathlib.Core.Bool.{Bool, true, false}
-use mathlib.Core.List.{List, [], _∷_}
 use native.Mathlib.Nat.{mod-lt}
 use native.Mathlib.Omega.{arith}
 use lib.Dec.{eqb}
@@ -10,15 +9,12 @@ use lib.ListN.{length}
 use lib.Bits.{bitOr, or-lt}
 use lib.Pow.{pow-pos, pow-lt, pow-mono, shl-lt}
 use borrow.Author.Tests.{lt-leb}
-use Rattle.laws.specs.Bits.{bit, pick}
-use Rattle.laws.specs.Lists.{all}
-use Rattle.laws.proofs.Bits.{every-all, bit-none}
-use Rattle.machine.specs.declared.Panel.{Panel}
+use Rattle.laws.specs.Bits.{pick}
 use Rattle.machine.specs.declared.ResponseBit.{ResponseBit}
 use Rattle.machine.specs.declared.Check.the-variants.{Passed}
-use Rattle.machine.specs.Machine.{Machine, Syllable, syllables}
-use Rattle.machine.specs.Search.{code, orExact, oneCode, codeAt}
+use Rattle.machine.specs.Machine.{Machine, syllables}
 use Rattle.machine.specs.Refusals.{tooWide, badPanel, badCodes, badLines, badAddress, machineCheck, pulseCheck}
+use Rattle.machine.proofs.Search.{all-unmixed}
 use Rattle.job_plans.specs.declared.Span.{Span}
 use Rattle.job_plans.specs.declared.Job.{Job}
 use Rattle.job_plans.specs.declared.Command.{Command}
@@ -37,22 +33,6 @@ pub record Taken (n : ℕ) (k : Command) : Type 0 where
 narrow : (n x : ℕ) → x < 2 ^ n → tooWide n x ≡ false
 narrow n x h = lt-leb (2 ^ n) x h
 
--- ---- a panel whose SC1 is 0 has no code but exact and don't care
-
-all-true : (f : Syllable → Bool) → ((y : Syllable) → f y ≡ true) → (ys : List Syllable) → all f ys ≡ true
-unfolding all
-all-true f h [] = refl
-all-true f h (y ∷ ys) = rw (h y) (all-true f h ys)
-
-exact-code : (b : ℕ) → orExact (code 0 b) ≡ true
-exact-code zero = refl
-exact-code (suc b) = refl
-
-one-code : (p : Panel) → p .sc1 ≡ 0 → (y : Syllable) → oneCode p y ≡ true
-unfolding oneCode
-one-code p e y =
-    rw (every-all (y .width) (λ j. orExact (codeAt p (y .low + j))) (λ j g. rw (e, bit-none (y .low + j)) (exact-code (bit (p .sc2) (y .low + j)))))
-
 -- ---- the two forms
 
 look-taken : (n key care : ℕ) (t : ResponseBit) (mask comp : ℕ) → mask < 2 ^ n → comp < 2 ^ n → Taken n (look key care t mask comp)
@@ -60,7 +40,7 @@ unfolding badPanel badCodes badLines badAddress
 look-taken n key care t mask comp h g =
     record {
       panel = rw (narrow n comp g, narrow n mask h, narrow n 0 (pow-pos n));
-      codes = rw (all-true _ (one-code (look key care t mask comp .panel) refl) (syllables n 0));
+      codes = rw (all-unmixed (look key care t mask comp .panel) refl refl (syllables n 0));
       lines = refl;
       address = λ m. refl;
     }

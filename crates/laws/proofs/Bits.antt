@@ -1,7 +1,7 @@
 -- Numbers and their bits: `number`, `every` and masks, for any count of bits.
 use Prim.Native.Nat.{ℕ, zero, suc, _+_, _-_, _*_, _/_, _%_, _^_, _≤_, _<_, min, max}
 use mathlib.Core.Path.{_≡_, refl, sym, ap, ap₂, _∙_}
-use mathlib.Core.Bool.{Bool, true, false, _&&_}
+use mathlib.Core.Bool.{Bool, true, false, _&&_, _||_}
 use mathlib.Core.Logic.{_⊎_, inl, inr, ⊎-elim}
 use native.Mathlib.Nat.{mod-one, mod-lt, mod-eq-of-lt, pow-suc, zero-div, div-one, mul-le-mul-right}
 use native.Mathlib.Numerals.{one-add}
@@ -64,6 +64,10 @@ and-left false b h = h
 pub and-right : (a b : Bool) → (a && b) ≡ true → b ≡ true
 and-right true b h = h
 and-right false b h = cc
+
+pub or-cases : (a b : Bool) → (a || b) ≡ true → (a ≡ true) ⊎ (b ≡ true)
+or-cases true b h = inl refl
+or-cases false b h = inr h
 
 pub every-at : (k : ℕ) (f : ℕ → Bool) → every k f ≡ true → (i : ℕ) → i < k → f i ≡ true
 unfolding every

@@ -6,18 +6,18 @@ use mathlib.Core.List.{List, [], _∷_}
 use mathlib.Core.Logic.{_⊎_, inl, inr, ⊎-elim}
 use native.Mathlib.Omega.{arith}
 use lib.Dec.{ltb}
-use borrow.Author.Tests.{lt-ltb, le-ltb, eq-eqb, ne-eqb}
+use borrow.Author.Tests.{lt-ltb, le-ltb, le-leb, lt-leb, eq-eqb, ne-eqb}
 use Rattle.laws.specs.Bits.{bit, number}
 use Rattle.laws.specs.Lists.{all}
 use Rattle.laws.proofs.Digits.{Bit, off, on, bit-lt, tri}
-use Rattle.laws.proofs.Bits.{digit-at, number-lt, every-like, every-at, and-left, and-right}
+use Rattle.laws.proofs.Bits.{digit-at, number-lt, every-like, every-at, and-left, and-right, or-cases}
 use Rattle.machine.specs.declared.Panel.{Panel}
 use Rattle.machine.specs.declared.Code.{Code}
 use Rattle.machine.specs.declared.Code.the-variants.{DontCare, Exact, Larger, Smaller}
 use Rattle.machine.specs.declared.Status.{Status}
 use Rattle.machine.specs.declared.Status.the-variants.{Equal, For, Against}
 use Rattle.machine.specs.Machine.{Syllable, syllables, selected}
-use Rattle.machine.specs.Search.{codeAt, eachCode, orExact, orLarger, orSmaller, oneCode, cared, readOver, asks, satisfied, matches}
+use Rattle.machine.specs.Search.{codeAt, eachCode, orEqual, orExact, orLarger, orSmaller, oneCode, oneSetting, comparedOnly, unmixed, cared, readOver, asks, satisfied, matches}
 use Rattle.machine.specs.Cells.{cell, passed, wants, accepted, cellsMatch}
 
 -- ---- two numbers compared, as a status
@@ -157,26 +157,32 @@ module _ (e : ℕ → Code) (w c : ℕ → ℕ) where
 
 -- ---- what the bottom wants is what the numbers are asked
 
-not-minding : (t : Status) → wants DontCare t ≡ true
-not-minding Equal = refl
-not-minding For = refl
-not-minding Against = refl
+not-minding : (e : Bool) (t : Status) → wants DontCare e t ≡ true
+not-minding e Equal = refl
+not-minding e For = refl
+not-minding e Against = refl
 
-wants-asks : (d : Code) (u v : ℕ) → wants d (seen d (compared u v)) ≡ asks d u v
-wants-asks DontCare u v = not-minding (seen DontCare (compared u v))
-wants-asks Exact u v =
-    ⊎-elim (λ h. rw (lower u v h, ne-eqb u v (λ e. omega arith)))
-    (⊎-elim (λ h. rw (level u v h, eq-eqb u v h)) (λ h. rw (higher u v h, ne-eqb u v (λ e. omega arith)))) (tri u v)
-wants-asks Larger u v =
+wants-asks : (d : Code) (e : Bool) (u v : ℕ) → wants d e (seen d (compared u v)) ≡ asks d e u v
+wants-asks DontCare e u v = not-minding e (seen DontCare (compared u v))
+wants-asks Exact e u v =
+    ⊎-elim (λ h. rw (lower u v h, ne-eqb u v (λ n. omega arith)))
+    (⊎-elim (λ h. rw (level u v h, eq-eqb u v h)) (λ h. rw (higher u v h, ne-eqb u v (λ n. omega arith)))) (tri u v)
+wants-asks Larger false u v =
     ⊎-elim (λ h. rw (lower u v h, le-ltb v u (omega arith)))
     (⊎-elim (λ h. rw (level u v h, le-ltb v u (omega arith))) (λ h. rw (higher u v h, lt-ltb v u h))) (tri u v)
-wants-asks Smaller u v =
+wants-asks Larger true u v =
+    ⊎-elim (λ h. rw (lower u v h, lt-leb v u h))
+    (⊎-elim (λ h. rw (level u v h, le-leb v u (omega arith))) (λ h. rw (higher u v h, le-leb v u (omega arith)))) (tri u v)
+wants-asks Smaller true u v =
+    ⊎-elim (λ h. rw (lower u v h, le-leb u v (omega arith)))
+    (⊎-elim (λ h. rw (level u v h, le-leb u v (omega arith))) (λ h. rw (higher u v h, lt-leb u v h))) (tri u v)
+wants-asks Smaller false u v =
     ⊎-elim (λ h. rw (lower u v h, lt-ltb u v h))
     (⊎-elim (λ h. rw (level u v h, le-ltb u v (omega arith))) (λ h. rw (higher u v h, le-ltb u v (omega arith)))) (tri u v)
 
-carried-wants : (d e : Code) (u v : ℕ) → Carries d e → wants e (seen d (compared u v)) ≡ asks e u v
-carried-wants d e u v (inl h) = rw h (not-minding (seen d (compared u v)))
-carried-wants d e u v (inr h) = rw h (wants-asks d u v)
+carried-wants : (d e : Code) (s : Bool) (u v : ℕ) → Carries d e → wants e s (seen d (compared u v)) ≡ asks e s u v
+carried-wants d e s u v (inl h) = rw h (not-minding s (seen d (compared u v)))
+carried-wants d e s u v (inr h) = rw h (wants-asks d s u v)
 
 -- ---- one code
 
@@ -198,10 +204,6 @@ or-smaller Exact h = inl (cc)
 or-smaller Larger h = inl (cc)
 or-smaller Smaller h = inr refl
 
-or-cases : (x y : Bool) → (x || y) ≡ true → (x ≡ true) ⊎ (y ≡ true)
-or-cases true y h = inl refl
-or-cases false y h = inr h
-
 -- the code that a syllable of one code carries
 pub carried : (p : Panel) (y : Syllable) → oneCode p y ≡ true → (d : Code) × ((j : ℕ) → j < y .width → Carries d (codeAt p (y .low + j)))
 unfolding oneCode
@@ -218,18 +220,22 @@ unfolding accepted satisfied
 accepted-satisfied p w y h =
     let d = carried p y h in
     every-like (y .width) _ _ (λ j l.
-    ap (wants (codeAt p (y .low + j)))
+    ap (wants (codeAt p (y .low + j)) (orEqual p (y .low + j)))
     (status-is (λ j. codeAt p (y .low + j)) (λ j. bit w (y .low + j)) (λ j. bit (p .comp) (y .low + j)) (d .0)
     (λ j. digit-at w (y .low + j)) (λ j. digit-at (p .comp) (y .low + j)) (y .width) (d .1))
-    ∙ carried-wants (d .0) (codeAt p (y .low + j)) (readOver p y w) (readOver p y (p .comp)) (d .1 j l))
+    ∙ carried-wants (d .0) (codeAt p (y .low + j)) (orEqual p (y .low + j)) (readOver p y w) (readOver p y (p .comp)) (d .1 j l))
 
-all-accepted : (p : Panel) (w : ℕ) (ys : List Syllable) → all (oneCode p) ys ≡ true → all (accepted p w) ys ≡ all (satisfied p w) ys
+-- of the reasons for 5 the cells' agreement needs only that codes are not mixed
+one-code : (p : Panel) (y : Syllable) → unmixed p y ≡ true → oneCode p y ≡ true
+one-code p y = and-left (oneCode p y) (oneSetting p y && comparedOnly p y)
+
+all-accepted : (p : Panel) (w : ℕ) (ys : List Syllable) → all (unmixed p) ys ≡ true → all (accepted p w) ys ≡ all (satisfied p w) ys
 unfolding all
 all-accepted p w [] h = refl
 all-accepted p w (y ∷ ys) h =
-    ap₂ (λ (a b : Bool). a && b) (accepted-satisfied p w y (and-left (oneCode p y) (all (oneCode p) ys) h))
-    (all-accepted p w ys (and-right (oneCode p y) (all (oneCode p) ys) h))
+    ap₂ (λ (a b : Bool). a && b) (accepted-satisfied p w y (one-code p y (and-left (unmixed p y) (all (unmixed p) ys) h)))
+    (all-accepted p w ys (and-right (unmixed p y) (all (unmixed p) ys) h))
 
-pub cells-match : (n : ℕ) (p : Panel) (w r : ℕ) → all (oneCode p) (syllables n (p .sdr)) ≡ true → cellsMatch n p w r ≡ matches n p w r
+pub cells-match : (n : ℕ) (p : Panel) (w r : ℕ) → all (unmixed p) (syllables n (p .sdr)) ≡ true → cellsMatch n p w r ≡ matches n p w r
 unfolding cellsMatch matches
 cells-match n p w r h = ap (λ (t : Bool). selected (p .key) (p .care) r && t) (all-accepted p w (syllables n (p .sdr)) h)

@@ -1,6 +1,7 @@
 -- laws of the machine's definitions, each for every width
 pub mod Loads
 pub mod Machine
+pub mod Search
 pub mod Cells
 pub mod Sums
 pub mod Words

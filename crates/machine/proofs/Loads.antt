@@ -10,7 +10,7 @@ use Rattle.machine.specs.Panel.{registers, panelOf, load}
 abbrev pub held : Panel → ℕ → ℕ
 held p k = getD (registers p) k 0
 
-pub load-that : (k v : ℕ) (p q : Panel) → k < 9 → registers q ≡ load k v p → held q k ≡ v
+pub load-that : (k v : ℕ) (p q : Panel) → k < 10 → registers q ≡ load k v p → held q k ≡ v
 load-that k v p q few e = ap (λ xs. getD xs k 0) e ∙ getD-set-same (registers p) k v 0 few
 
 pub load-no-other : (k v : ℕ) (p q : Panel) (j : ℕ) → (j ≡ k → ⊥) → registers q ≡ load k v p → held q j ≡ held p j

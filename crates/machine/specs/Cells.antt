@@ -1,4 +1,4 @@
--- Document 01, 'One pulse', The cells: a search from top bit to bottom, an add from bottom to top.
+-- Document 01, 'One pulse', The cells, and document 02, request c: a search from top bit to bottom, an add from bottom to top.
 use Prim.Native.Nat.{ℕ, zero, suc, _+_, _/_, _%_}
 use mathlib.Core.Bool.{Bool, true, false, _&&_}
 use Rattle.laws.specs.Bits.{bit}
@@ -8,7 +8,7 @@ use Rattle.machine.specs.declared.Code.{Code}
 use Rattle.machine.specs.declared.Status.{Status}
 use Rattle.machine.specs.declared.Status.the-variants.{Equal, For, Against}
 use Rattle.machine.specs.Machine.{Syllable, syllables, selected}
-use Rattle.machine.specs.Search.{codeAt, byCode, eachCode}
+use Rattle.machine.specs.Search.{codeAt, byCode, eachBit}
 
 -- word and COMP differ or not: what word 1 with COMP 0 settles, and word 0 with COMP 1
 abbrev pub settled : Status → Status → ℕ → ℕ → Status
@@ -34,14 +34,14 @@ passed f (suc j) t = passed f j (f j t)
 abbrev pub statusOf : Panel → ℕ → Syllable → Status
 statusOf p w y = passed (λ j. cell (codeAt p (y .low + j)) (bit w (y .low + j)) (bit (p .comp) (y .low + j))) (y .width) Equal
 
--- "Exact wants "equal" at the bottom, larger and smaller want "settled for"."
-abbrev pub wants : Code → Status → Bool
-wants d Equal = byCode d true true false false
-wants d For = byCode d true false true true
-wants d Against = byCode d true false false false
+-- "Exact wants "equal" at the bottom, larger and smaller want "settled for"." 02 c: with a one of SC3 "equal at the bottom also satisfies".
+abbrev pub wants : Code → Bool → Status → Bool
+wants d e Equal = byCode d true true e e
+wants d e For = byCode d true false true true
+wants d e Against = byCode d true false false false
 
 unfoldable pub accepted : Panel → ℕ → Syllable → Bool
-accepted p w y = eachCode p y (λ d. wants d (statusOf p w y))
+accepted p w y = eachBit p y (λ d e. wants d e (statusOf p w y))
 
 unfoldable pub cellsMatch : ℕ → Panel → ℕ → ℕ → Bool
 cellsMatch n p w r = selected (p .key) (p .care) r && all (accepted p w) (syllables n (p .sdr))

@@ -1,4 +1,5 @@
--- Document 01, 'Numbers given when a call is turned down': 1 to 7, and what a pulse answers and leaves.
+-- Document 01, 'Numbers given when a call is turned down', with 4 and 5 as document 02, request c, has them: 1 to 7, and what a pulse answers and
+-- leaves.
 use Prim.Native.Nat.{ℕ, _+_, _^_}
 use mathlib.Core.Bool.{Bool, true, false, not, _&&_, _||_}
 use lib.Dec.{ltb, leb, eqb}
@@ -17,7 +18,7 @@ use Rattle.machine.specs.declared.Check.the-variants as check
 use Rattle.machine.specs.declared.Answer.{Answer}
 use Rattle.machine.specs.declared.Answer.the-variants as answer
 use Rattle.machine.specs.Machine.{Machine, responseBits, syllables}
-use Rattle.machine.specs.Search.{oneCode}
+use Rattle.machine.specs.Search.{unmixed}
 use Rattle.machine.specs.Pulse.{countOf, readOf, pulsed}
 use Rattle.machine.specs.Resolution.{lowest}
 
@@ -35,13 +36,15 @@ badWidth n = eqb n 0 || ltb 64 n
 abbrev pub tooWide : ℕ → ℕ → Bool
 tooWide n x = leb (2 ^ n) x
 
--- 4: "a panel register has such a one"
+-- 4: "a panel register has such a one"; 02 c: "4 covers SC3"
 unfoldable pub badPanel : ℕ → Panel → Bool
-badPanel n p = tooWide n (p .comp) || tooWide n (p .sdr) || tooWide n (p .sc1) || tooWide n (p .sc2) || tooWide n (p .mor)
+badPanel n p =
+    tooWide n (p .comp) || tooWide n (p .sdr) || tooWide n (p .sc1) || tooWide n (p .sc2) || tooWide n (p .mor) || tooWide n (p .sc3)
 
--- 5: "search raised, a syllable with two codes"
+-- 5: "search raised, a syllable with two codes"; 02 c: "5 also covers two SC3 settings among one syllable's cared bits, or a one of SC3 over an exact
+-- or don't-care bit"
 unfoldable pub badCodes : ℕ → Panel → Lines → Bool
-badCodes n p l = l .search && not (all (oneCode p) (syllables n (p .sdr)))
+badCodes n p l = l .search && not (all (unmixed p) (syllables n (p .sdr)))
 
 -- 6: "no line, three or more, or complement with another"
 abbrev pub raised : Lines → ℕ

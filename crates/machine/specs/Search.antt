@@ -1,8 +1,8 @@
--- Document 01, 'One pulse', Search: by the numbers that word and COMP make over each syllable.
+-- Document 01, 'One pulse', Search, and document 02, request c: by the numbers that word and COMP make over each syllable.
 use Prim.Native.Nat.{ℕ, zero, suc, _+_}
-use mathlib.Core.Bool.{Bool, true, false, _&&_, _||_}
-use lib.Dec.{ltb, eqb}
-use Rattle.laws.specs.Bits.{bit, number, every, digit, under}
+use mathlib.Core.Bool.{Bool, true, false, not, _&&_, _||_}
+use lib.Dec.{ltb, leb, eqb}
+use Rattle.laws.specs.Bits.{bit, number, every, pick, digit, under}
 use Rattle.laws.specs.Lists.{all}
 use Rattle.machine.specs.declared.Panel.{Panel}
 use Rattle.machine.specs.declared.Code.{Code}
@@ -30,6 +30,14 @@ byCode Smaller d e l s = s
 abbrev pub eachCode : Panel → Syllable → (Code → Bool) → Bool
 eachCode p y test = every (y .width) (λ j. test (codeAt p (y .low + j)))
 
+-- 02 c: "Add a third search register SC3": whether it has a one at a bit
+abbrev pub orEqual : Panel → ℕ → Bool
+orEqual p i = eqb (bit (p .sc3) i) 1
+
+-- a test holds of each bit of a syllable: of its code, and whether SC3 has a one there
+abbrev pub eachBit : Panel → Syllable → (Code → Bool → Bool) → Bool
+eachBit p y test = every (y .width) (λ j. test (codeAt p (y .low + j)) (orEqual p (y .low + j)))
+
 -- "In one syllable all bits other than don't-care ones carry one code."
 abbrev pub orExact : Code → Bool
 orExact d = byCode d true true false false
@@ -43,6 +51,27 @@ orSmaller d = byCode d true false false true
 unfoldable pub oneCode : Panel → Syllable → Bool
 oneCode p y = eachCode p y orExact || (eachCode p y orLarger || eachCode p y orSmaller)
 
+-- 02 c: "two SC3 settings among one syllable's cared bits": not so where none of them has a one, or each has
+abbrev pub orUnset : Code → Bool → Bool
+orUnset d e = byCode d true (not e) (not e) (not e)
+
+abbrev pub orSet : Code → Bool → Bool
+orSet d e = byCode d true e e e
+
+unfoldable pub oneSetting : Panel → Syllable → Bool
+oneSetting p y = eachBit p y orUnset || eachBit p y orSet
+
+-- 02 c: "or a one of SC3 over an exact or don't-care bit": not so where each of its ones is over a larger or smaller bit
+abbrev pub overCompared : Code → Bool → Bool
+overCompared d e = byCode d (not e) (not e) true true
+
+unfoldable pub comparedOnly : Panel → Syllable → Bool
+comparedOnly p y = eachBit p y overCompared
+
+-- one code, one setting of SC3, and that only where it says something
+abbrev pub unmixed : Panel → Syllable → Bool
+unmixed p y = oneCode p y && (oneSetting p y && comparedOnly p y)
+
 -- "Read word and COMP over that syllable with don't-care bits taken as 0 .."
 abbrev pub cared : Code → ℕ → ℕ
 cared d b = byCode d 0 b b b
@@ -50,13 +79,14 @@ cared d b = byCode d 0 b b b
 abbrev pub readOver : Panel → Syllable → ℕ → ℕ
 readOver p y x = over y (λ i. cared (codeAt p i) (bit x i))
 
--- ".. the word's number must be equal to, larger than or smaller than COMP's."
-abbrev pub asks : Code → ℕ → ℕ → Bool
-asks d w c = byCode d true (eqb w c) (ltb c w) (ltb w c)
+-- ".. the word's number must be equal to, larger than or smaller than COMP's." 02 c: with a one of SC3 "over a cared bit, larger becomes at least
+-- and smaller at most".
+abbrev pub asks : Code → Bool → ℕ → ℕ → Bool
+asks d e w c = byCode d true (eqb w c) (pick e (leb c w) (ltb c w)) (pick e (leb w c) (ltb w c))
 
 -- "A syllable of don't-cares is satisfied."
 unfoldable pub satisfied : Panel → ℕ → Syllable → Bool
-satisfied p w y = eachCode p y (λ d. asks d (readOver p y w) (readOver p y (p .comp)))
+satisfied p w y = eachBit p y (λ d e. asks d e (readOver p y w) (readOver p y (p .comp)))
 
 -- "A word **matches** if it is selected and all its syllables are satisfied."
 unfoldable pub matches : ℕ → Panel → ℕ → ℕ → Bool

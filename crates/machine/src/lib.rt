@@ -34,6 +34,8 @@ pub struct Panel {
     pub care: Response,
     pub target: Response,
     pub address: WordSlice,
+    // 02 c: "a third search register SC3"
+    pub sc3: u64,
 }
 
 impl Panel {
@@ -51,6 +53,7 @@ impl Panel {
             care: 0,
             target: 0,
             address: WordSlice(0),
+            sc3: 0,
         }
     }
 
@@ -115,6 +118,13 @@ impl Panel {
         ensures { λ r. ⌜ registers r ≡ load 8 (value .0) self ⌝ }
     {
         self.address = value;
+        self
+    }
+
+    pub fn load_sc3(mut self, value: u64) -> Panel
+        ensures { λ r. ⌜ registers r ≡ load 9 value self ⌝ }
+    {
+        self.sc3 = value;
         self
     }
 }
@@ -359,6 +369,7 @@ pub fn bad_panel(width: u32, panel: Panel) -> bool
         | too_wide(width, panel.sc1)
         | too_wide(width, panel.sc2)
         | too_wide(width, panel.mor)
+        | too_wide(width, panel.sc3)
 }
 
 fn digit_of(raised: bool) -> u32

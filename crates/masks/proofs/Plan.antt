@@ -2,7 +2,6 @@
 -- and syllable by syllable ('One pulse').
 use Prim.Native.Nat.{ℕ, _+_, _-_, _%_, _^_, _≤_, _<_}
 use mathlib.Core.Path.{_≡_, refl, sym, ap, ap₂, _∙_}
-use mathlib.Core.List.{List}
 use mathlib.Core.Bool.{Bool, true, false, _&&_}
 use native.Mathlib.Nat.{mod-lt}
 use native.Mathlib.Omega.{arith}
@@ -17,12 +16,12 @@ use Rattle.machine.specs.Search.{satisfied, matches, marked}
 use Rattle.machine.specs.Pulse as m
 use Rattle.machine.proofs.Masks.{selected-is, marked-is, flipped-is, written-is, both-is}
 use Rattle.fields.specs.Fields.{fields}
-use Rattle.fields.specs.Codes.{oneIn, satisfiedIn}
 use Rattle.fields.specs.Tops.{topsOf}
 use Rattle.fields.proofs.Shape.{same-fields, topped, bits-fields, add-lt}
 use Rattle.fields.proofs.Turned.{limit}
 use Rattle.fields.proofs.Tested.{tested-word}
 use Rattle.fields.proofs.WordSum.{sum-word}
+use Rattle.fields.proofs.Settings.{Unmixed, swapped-one, swapped-care, turned-is}
 use Rattle.fields.proofs.Reader.{all-satisfied-is, added-is}
 use Rattle.sweeps.specs.Rules.{test, flag, chosen, hit, put, mark, found, answer, written, summed, asked, both as flips, new, choice, gated, changed, flipped}
 use Rattle.masks.specs.Plan.{masksOf, tagsOf, changesOf}
@@ -36,15 +35,16 @@ module _ (n : ℕ) (p : Panel) (f : Fit n p) (care : p .care < 2 ^ responseBits)
 
   -- ---- search
 
-  module _ (one : oneIn (fields n (p .sdr)) (p .sc1) (p .sc2) ≡ true) where
+  module _ (u : Unmixed (fields n (p .sdr)) (p .sc1) (p .sc2) (p .sc3)) where
     test-is : (w : ℕ) → eqb (test (masksOf n p) w) (masksOf n p .want) ≡ all (satisfied p w) (syllables n (p .sdr))
     unfolding test masksOf limit
     test-is w =
         let t = topped n (p .sdr) (f .least) (f .most) (f .sdr) in
         let e = same-fields n (p .sdr) (f .least) in
-        tested-word n (topsOf n (p .sdr)) (t .pos) (t .wide) (t .within) (t .top) (p .sc1) (p .sc2) (p .comp) w (f .sc1) (f .sc2) (rw e one)
-        ∙ ap (λ (ks : List ℕ). satisfiedIn ks (p .sc1) (p .sc2) w (p .comp)) e
-        ∙ sym (all-satisfied-is n p w one)
+        (rw (swapped-care (fields n (p .sdr)) (p .sc1) (p .sc2) (p .sc3) u) at (tested-word n (topsOf n (p .sdr)) (t .pos) (t .wide) (t .within) (t .top) (p .sc1) (bitXor (p .sc2) (p .sc3)) (p .sc3) (p .comp) w (f .sc1)
+        (xor-lt n (p .sc2) (p .sc3) (f .sc2) (f .sc3)) (rw e (swapped-one (fields n (p .sdr)) (p .sc1) (p .sc2) (p .sc3) u))))
+        ∙ rw e (turned-is (fields n (p .sdr)) (p .sc1) (p .sc2) (p .sc3) w (p .comp) u)
+        ∙ sym (all-satisfied-is n p w u)
 
     pub found-is : (w r : ℕ) → found (masksOf n p) (tagsOf p) w r ≡ matches n p w r
     unfolding found hit flag matches

@@ -1,5 +1,5 @@
 // What a pulse works out of the panel once, by whole words: masks, tags and changes for the sweeps.
-// Document 01, 'One pulse'; that they do what it says is the law proofs/Plan.
+// Document 01, 'One pulse', and document 02, request c; that they do what these say is the law proofs/Plan.
 use machine::Panel;
 use sweeps::Changes;
 use sweeps::Masks;
@@ -8,6 +8,7 @@ ghost use mathlib.Core.Path.{_≡_};
 ghost use Prim.Native.Nat.{_^_, _≤_, _<_};
 ghost use Rattle.fields.specs.Fields.{fields, addIn, aboveIn};
 ghost use Rattle.fields.specs.Tops.{topsOf, Topped};
+ghost use Rattle.fields.specs.Codes.{clash};
 ghost use Rattle.masks.specs.Plan.{Fit, masksOf, tagsOf, changesOf};
 
 // ---- whole words, all syllables at once
@@ -40,6 +41,15 @@ pub fn filled(width: u32, t: u64, q: u64) -> u64
     ((q & u) | ((q | u) & low)) & t
 }
 
+// A one at the top of each syllable in which both numbers have ones, and not the same.
+pub fn mixed(width: u32, t: u64, x: u64, y: u64) -> u64
+    requires { ⌜ Topped width t ⌝ }
+    requires { ⌜ (x < 2 ^ width) × (y < 2 ^ width) ⌝ }
+    ensures { λ r. ⌜ r ≡ clash (fields width t) x y ⌝ }
+{
+    filled(width, t, x) & filled(width, t, y) & filled(width, t, x ^ y)
+}
+
 // ---- what a pulse works out of the panel once
 
 pub fn make_tags(panel: Panel) -> Tags
@@ -52,6 +62,7 @@ pub fn make_tags(panel: Panel) -> Tags
     }
 }
 
+// At least is not smaller, at most is not larger: under SC3 the two codes are swapped, and at the top the contrary is wanted.
 pub fn make_masks(width: u32, panel: Panel) -> Masks
     requires { ⌜ Fit width panel ⌝ }
     ensures { λ r. ⌜ r ≡ masksOf width panel ⌝ }
@@ -59,11 +70,13 @@ pub fn make_masks(width: u32, panel: Panel) -> Masks
     let t = tops_of(width, panel.sdr);
     let mask = machine::low_bits(width);
     let care = panel.sc1 | panel.sc2;
-    let smaller = panel.sc1 & panel.sc2;
-    let exact = panel.sc2 ^ smaller;
+    let second = panel.sc2 ^ panel.sc3;
+    let smaller = panel.sc1 & second;
+    let exact = second ^ smaller;
     let larger = panel.sc1 ^ smaller;
     let less = add_word(width, t, exact, mask);
     let need = filled(width, t, care);
+    let contrary = filled(width, t, panel.sc3);
     let limit = (exact ^ (exact & less)) ^ ((panel.comp & panel.sc1) ^ larger);
     let flip = mask ^ (larger ^ (panel.comp & exact));
     Masks {
@@ -73,7 +86,7 @@ pub fn make_masks(width: u32, panel: Panel) -> Masks
         lowflip: flip & !t,
         rest: limit & !t,
         limit,
-        want: need & !limit,
+        want: (need & !limit) ^ contrary,
     }
 }
 

@@ -1,5 +1,5 @@
-// The panel lent: nine thin loads through `&mut`, one for each register, over the loads by value, and a load by number above them.
-// Document 01, 'The machine': "Loading one register of the panel changes that register and no other."
+// The panel lent: ten thin loads through `&mut`, one for each register, over the loads by value, and a load by number above them.
+// Document 01, 'The machine': "Loading one register of the panel changes that register and no other." The tenth is SC3 of document 02, request c.
 ghost use mathlib.Core.Path.{_≡_};
 ghost use Rattle.laws.specs.Bits.{pick};
 ghost use Rattle.machine.specs.Panel.{registers, load};
@@ -72,6 +72,13 @@ pub fn load_address(panel: &mut Panel, value: WordSlice)
     *panel = p.load_address(value);
 }
 
+pub fn load_sc3(panel: &mut Panel, value: u64)
+    ensures { λ _. ⌜ registers (now (panel .exit)) ≡ load 9 value (now (panel .entry)) ⌝ }
+{
+    let p = *panel;
+    *panel = p.load_sc3(value);
+}
+
 // ---- above them, with plain parameters: whoever calls `load` needs no proof by hand
 
 // The register of this number, of a panel of its own, which it lends. The value comes in each type that a register has.
@@ -89,6 +96,7 @@ fn load_own(panel: Panel, register: u8, value: u64, narrow: Response, word: Word
         6 => load_care(&mut own, narrow),
         7 => load_target(&mut own, narrow),
         8 => load_address(&mut own, word),
+        9 => load_sc3(&mut own, value),
         _ => (),
     }
     own
@@ -103,7 +111,7 @@ pub fn takes(register: u8, value: u64) -> bool
     } else if register < 8 {
         !machine::too_wide(RESPONSE_BITS, value)
     } else {
-        register == 8
+        register < 10
     }
 }
 

@@ -130,6 +130,9 @@ use Rattle.machine.proofs.Panel.load_target.Reads as own-target-reads
 use Rattle.machine.proofs.Panel.load_address as own-address
 use Rattle.machine.proofs.Panel.load_address.Kinds as own-address-kinds
 use Rattle.machine.proofs.Panel.load_address.Reads as own-address-reads
+use Rattle.machine.proofs.Panel.load_sc3 as own-sc3
+use Rattle.machine.proofs.Panel.load_sc3.Kinds as own-sc3-kinds
+use Rattle.machine.proofs.Panel.load_sc3.Reads as own-sc3-reads
 use Rattle.panel.proofs.load_comp as load-comp
 use Rattle.panel.proofs.load_sdr as load-sdr
 use Rattle.panel.proofs.load_sc1 as load-sc1
@@ -139,6 +142,7 @@ use Rattle.panel.proofs.load_key as load-key
 use Rattle.panel.proofs.load_care as load-care
 use Rattle.panel.proofs.load_target as load-target
 use Rattle.panel.proofs.load_address as load-address
+use Rattle.panel.proofs.load_sc3 as load-sc3
 use Rattle.panel.proofs.load as numbered
 use Rattle.panel.proofs.load.Kinds as numbered-kinds
 use Rattle.panel.proofs.load.Reads as numbered-reads
@@ -431,7 +435,7 @@ pub record Loads (k v : ℕ) (p q : Panel) : Type 0 where
   pub that : held q k ≡ v
   pub no-other : (j : ℕ) → (j ≡ k → ⊥) → held q j ≡ held p j
 
-a-load : (k v : ℕ) (p q : Panel) → k < 9 → registers q ≡ load k v p → Loads k v p q
+a-load : (k v : ℕ) (p q : Panel) → k < 10 → registers q ≡ load k v p → Loads k v p q
 a-load k v p q few e = record { that = load-that k v p q few e; no-other = λ j z. load-no-other k v p q j z e }
 
 pub own-comp-meets : (κs : Lfts 0) (a : ArgsD own-comp.signature κs) (r : ResD own-comp.signature κs) (s : AtExit (endedOf 0 own-comp-kinds.ps own-comp-kinds.r) κs)
@@ -470,6 +474,10 @@ pub own-address-meets : (κs : Lfts 0) (a : ArgsD own-address.signature κs) (r 
     → own-address-reads.Post κs a r s → Loads 8 (a .1 .0 .0) (a .0) r
 own-address-meets κs a r s h = a-load 8 (a .1 .0 .0) (a .0) r (omega arith) h
 
+pub own-sc3-meets : (κs : Lfts 0) (a : ArgsD own-sc3.signature κs) (r : ResD own-sc3.signature κs) (s : AtExit (endedOf 0 own-sc3-kinds.ps own-sc3-kinds.r) κs)
+    → own-sc3-reads.Post κs a r s → Loads 9 (a .1 .0) (a .0) r
+own-sc3-meets κs a r s h = a-load 9 (a .1 .0) (a .0) r (omega arith) h
+
 -- of a panel lent, as a formula (see `Settled`)
 module _ {M : Type 1} (𝓤 : URA M) where
   abbrev pub LoadsLent : (v : Value) → ℕ → (v .row .Denot → ℕ) → Clauses 𝓤 (ended v) → Type 1
@@ -477,7 +485,7 @@ module _ {M : Type 1} (𝓤 : URA M) where
       (κs : Lfts 1) (a : Args (signature v) κs) (g : c κs a .ghost) (r : Res (signature v) κs) (s : AtExit (ended v) κs)
       → ent 𝓤 (c κs a .ensures g r s) (fact 𝓤 (Loads k (value (a .1 .0)) (now (a .0)) (now (s .0))))
 
-  lent : (v : Value) (k : ℕ) (value : v .row .Denot → ℕ) → k < 9 → LoadsLent v k value (clauses 𝓤 v (λ p x q. registers q ≡ load k (value x) p))
+  lent : (v : Value) (k : ℕ) (value : v .row .Denot → ℕ) → k < 10 → LoadsLent v k value (clauses 𝓤 v (λ p x q. registers q ≡ load k (value x) p))
   lent v k value few κs a g r s =
       fact-mono 𝓤 (registers (now (s .0)) ≡ load k (value (a .1 .0)) (now (a .0))) (Loads k (value (a .1 .0)) (now (a .0)) (now (s .0)))
       (a-load k (value (a .1 .0)) (now (a .0)) (now (s .0)) few)
@@ -510,18 +518,21 @@ module _ {M : Type 1} (𝓤 : URA M) (H : Heap 𝓤) (A : Atoms 𝓤) (mem : Mem
   pub load-address-meets : LoadsLent 𝓤 word 8 (λ v. v .0) (load-address.clauses 𝓤 H A mem run)
   load-address-meets = lent 𝓤 word 8 (λ v. v .0) (omega arith)
 
+  pub load-sc3-meets : LoadsLent 𝓤 (number w64) 9 (λ v. v) (load-sc3.clauses 𝓤 H A mem run)
+  load-sc3-meets = lent 𝓤 (number w64) 9 (λ v. v) (omega arith)
+
 -- by number: what `takes` answers beforehand, and nothing changes where it is false
 pub takes-meets : (κs : Lfts 0) (a : ArgsD taking.signature κs) (r : ResD taking.signature κs) (s : AtExit (endedOf 0 taking-kinds.ps taking-kinds.r) κs)
     → taking-reads.Post κs a r s → r ≡ takes (a .0) (a .1 .0)
 takes-meets κs a r s h = h
 
-a-register : (k v : ℕ) → takes k v ≡ true → k < 9
+a-register : (k v : ℕ) → takes k v ≡ true → k < 10
 a-register k v e = go (ltb k 5) (ltb k 8) refl refl e
   where
-    go : (b c : Bool) → ltb k 5 ≡ b → ltb k 8 ≡ c → pick b true (pick c (not (tooWide responseBits v)) (eqb k 8)) ≡ true → k < 9
+    go : (b c : Bool) → ltb k 5 ≡ b → ltb k 8 ≡ c → pick b true (pick c (not (tooWide responseBits v)) (ltb k 10)) ≡ true → k < 10
     go true c f g z = omega (arith, ltb-true k 5 f)
     go false true f g z = omega (arith, ltb-true k 8 g)
-    go false false f g z = omega (arith, eqb-true k 8 z)
+    go false false f g z = ltb-true k 10 z
 
 pub load-meets : (κs : Lfts 0) (a : ArgsD numbered.signature κs) (r : ResD numbered.signature κs) (s : AtExit (endedOf 0 numbered-kinds.ps numbered-kinds.r) κs)
     → numbered-reads.Post κs a r s

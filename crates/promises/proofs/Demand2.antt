@@ -21,7 +21,7 @@ use Rattle.machine.specs.declared.Panel.{Panel}
 use Rattle.machine.specs.declared.Lines.{Lines}
 use Rattle.machine.specs.declared.Check.the-variants.{Passed}
 use Rattle.machine.specs.Machine.{Machine, responseBits, syllables, selected}
-use Rattle.machine.specs.Search.{oneCode, matches, marked}
+use Rattle.machine.specs.Search.{unmixed, matches, marked}
 use Rattle.machine.specs.Cells.{cellsMatch}
 use Rattle.machine.specs.Pulse.{wordAfter, responseAfter, pulsed}
 use Rattle.machine.specs.declared.WordSlice.{WordSlice}
@@ -90,7 +90,7 @@ module _ (m : Machine) (p : Panel) (l : Lines) (accepted : pulseCheck m p l ≡ 
 -- ---- the cells agree with the numbers, for every width
 
 -- "This is the plain machine; the word-wide one agrees with it": its cells match the words that the numbers match wherever 5 is not given
-pub cells-agree : (n : ℕ) (p : Panel) (w r : ℕ) → all (oneCode p) (syllables n (p .sdr)) ≡ true → cellsMatch n p w r ≡ matches n p w r
+pub cells-agree : (n : ℕ) (p : Panel) (w r : ℕ) → all (unmixed p) (syllables n (p .sdr)) ≡ true → cellsMatch n p w r ≡ matches n p w r
 cells-agree = cells-match
 
 -- ---- the two machines agree, and so do the two resolutions: for the same arguments a, an outcome that meets the one's contract and an outcome

@@ -11,7 +11,7 @@ use Rattle.machine.specs.declared.Panel.{Panel}
 use Rattle.machine.specs.declared.Lines.{Lines}
 use Rattle.machine.specs.Panel.{panelOf}
 use Rattle.machine.specs.Machine.{Machine, responseBits, bottom, tops, selected}
-use Rattle.machine.specs.Search.{oneCode, satisfied, matches, marked}
+use Rattle.machine.specs.Search.{oneCode, oneSetting, comparedOnly, satisfied, matches, marked}
 use Rattle.machine.specs.Pulse.{written, sums, added, wordAfter, flipped, responseAfter, counts, countOf, readOf, pulsed}
 use Rattle.machine.specs.Resolution.{lowest}
 use Rattle.machine.specs.Refusals.{badSize, badWidth, badPanel, badCodes, badLines, badAddress, machineCheck, pulseCheck, answerOf, after, Told, told}
@@ -159,5 +159,39 @@ table =
 -- ---- the statement: what the definitions give is what document 01 states, in every row
 
 pub figures : map (λ (r : Row). r .given) table ≡ map (λ (r : Row). r .stated) table
-unfolding number every all zip count bottom tops selected oneCode satisfied matches marked written sums added wordAfter flipped responseAfter counts countOf readOf pulsed lowest badSize badWidth badPanel badCodes badLines badAddress machineCheck pulseCheck answerOf after extremeCheck scaledAddCheck productCheck usedCheck unusedZero inTable heldCheck first next command startCheck startOf stepCheck stepOf afterStep stepped steps stepsTaken
+unfolding number every all zip count bottom tops selected oneCode oneSetting comparedOnly satisfied matches marked written sums added wordAfter flipped responseAfter counts countOf readOf pulsed lowest badSize badWidth badPanel badCodes badLines badAddress machineCheck pulseCheck answerOf after extremeCheck scaledAddCheck productCheck usedCheck unusedZero inTable heldCheck first next command startCheck startOf stepCheck stepOf afterStep stepped steps stepsTaken
 figures = refl
+
+-- ---- document 02, request c: "at least 90 days" on words 89, 90 and 91 of 8 bits, one syllable, responses 0, target 1
+
+-- COMP, SC1, SC2, SC3: the number told, the count and the responses afterwards
+abbrev days : ℕ → ℕ → ℕ → ℕ → ℕ → ℕ → List ℕ → Row
+days c a b e refusal k rs =
+    record {
+      figure = 0;
+      given = onePulse (record { width = 8; words = 89 ∷ 90 ∷ 91 ∷ []; responses = 0 ∷ 0 ∷ 0 ∷ [] }) (panelOf (c ∷ 0 ∷ a ∷ b ∷ 0 ∷ 0 ∷ 0 ∷ 1 ∷ 0 ∷ e ∷ [])) search;
+      stated = record { pulses = 1; told = record { refusal = refusal; also = 0; count = k; read = 0 }; words = 89 ∷ 90 ∷ 91 ∷ []; responses = rs };
+    }
+
+-- at least 90, and larger than 89 and than 90; at most 90, and smaller than 90; at most 0, at least 0, at most all ones; bits 1 and 0 don't care;
+-- two settings of SC3; SC3 over an exact bit, over a don't-care bit; SC3 at bit N
+abbrev pub least-and-most : List Row
+least-and-most =
+    days 90 0xFF 0 0xFF 0 2 (0 ∷ 1 ∷ 1 ∷ [])
+    ∷ days 89 0xFF 0 0 0 2 (0 ∷ 1 ∷ 1 ∷ [])
+    ∷ days 90 0xFF 0 0 0 1 (0 ∷ 0 ∷ 1 ∷ [])
+    ∷ days 90 0xFF 0xFF 0xFF 0 2 (1 ∷ 1 ∷ 0 ∷ [])
+    ∷ days 90 0xFF 0xFF 0 0 1 (1 ∷ 0 ∷ 0 ∷ [])
+    ∷ days 0 0xFF 0xFF 0xFF 0 0 (0 ∷ 0 ∷ 0 ∷ [])
+    ∷ days 0 0xFF 0 0xFF 0 3 (1 ∷ 1 ∷ 1 ∷ [])
+    ∷ days 0xFF 0xFF 0xFF 0xFF 0 3 (1 ∷ 1 ∷ 1 ∷ [])
+    ∷ days 91 0xFC 0 0xFC 0 3 (1 ∷ 1 ∷ 1 ∷ [])
+    ∷ days 90 0xFF 0 0x0F 5 0 (0 ∷ 0 ∷ 0 ∷ [])
+    ∷ days 90 0 0xFF 0x01 5 0 (0 ∷ 0 ∷ 0 ∷ [])
+    ∷ days 90 0xFE 0 0xFF 5 0 (0 ∷ 0 ∷ 0 ∷ [])
+    ∷ days 90 0xFF 0 0x100 4 0 (0 ∷ 0 ∷ 0 ∷ [])
+    ∷ []
+
+pub figures-of-c : map (λ (r : Row). r .given) least-and-most ≡ map (λ (r : Row). r .stated) least-and-most
+unfolding number every all zip count bottom tops selected oneCode oneSetting comparedOnly satisfied matches marked written sums added wordAfter flipped responseAfter counts countOf readOf pulsed lowest badSize badWidth badPanel badCodes badLines badAddress machineCheck pulseCheck answerOf after
+figures-of-c = refl

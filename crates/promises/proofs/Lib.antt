@@ -2,6 +2,7 @@
 pub mod Adding
 pub mod Answered
 pub mod Calls
+pub mod Comparing
 pub mod Demand1
 pub mod Demand2
 pub mod Demand3

@@ -78,6 +78,9 @@ use Rattle.machine.proofs.Panel.load_target.Reads as own-target-reads
 use Rattle.machine.proofs.Panel.load_address as own-address
 use Rattle.machine.proofs.Panel.load_address.Kinds as own-address-kinds
 use Rattle.machine.proofs.Panel.load_address.Reads as own-address-reads
+use Rattle.machine.proofs.Panel.load_sc3 as own-sc3
+use Rattle.machine.proofs.Panel.load_sc3.Kinds as own-sc3-kinds
+use Rattle.machine.proofs.Panel.load_sc3.Reads as own-sc3-reads
 use Rattle.machine.proofs.Loads.{same-panel}
 use Rattle.panel.proofs.Thin.{number, word}
 use Rattle.panel.proofs.Settles.{Settles, settles}
@@ -90,6 +93,7 @@ use Rattle.panel.proofs.load_key as load-key
 use Rattle.panel.proofs.load_care as load-care
 use Rattle.panel.proofs.load_target as load-target
 use Rattle.panel.proofs.load_address as load-address
+use Rattle.panel.proofs.load_sc3 as load-sc3
 use Rattle.panel.proofs.load as numbered
 use Rattle.panel.proofs.load.Kinds as numbered-kinds
 use Rattle.panel.proofs.load.Reads as numbered-reads
@@ -182,6 +186,10 @@ pub own-address-settled : (κs : Lfts 0) (a : ArgsD own-address.signature κs) (
     → own-address-reads.Post κs a r s → own-address-reads.Post κs a r′ s′ → r ≡ r′
 own-address-settled κs a r r′ s s′ h g = same-panel r r′ (h ∙ sym g)
 
+pub own-sc3-settled : (κs : Lfts 0) (a : ArgsD own-sc3.signature κs) (r r′ : ResD own-sc3.signature κs) (s s′ : AtExit (endedOf 0 own-sc3-kinds.ps own-sc3-kinds.r) κs)
+    → own-sc3-reads.Post κs a r s → own-sc3-reads.Post κs a r′ s′ → r ≡ r′
+own-sc3-settled κs a r r′ s s′ h g = same-panel r r′ (h ∙ sym g)
+
 -- the nine thin loads: what their contracts say of a panel lent is a formula, and that two panels are equal follows from it as one (`Settles`)
 module _ {M : Type 1} (𝓤 : URA M) (H : Heap 𝓤) (A : Atoms 𝓤) (mem : Memory → SProp 𝓤) (run : Routine → Fun 𝓤) where
   pub load-comp-settled : Settles 𝓤 (number w64) (load-comp.clauses 𝓤 H A mem run)
@@ -210,6 +218,9 @@ module _ {M : Type 1} (𝓤 : URA M) (H : Heap 𝓤) (A : Atoms 𝓤) (mem : Mem
 
   pub load-address-settled : Settles 𝓤 word (load-address.clauses 𝓤 H A mem run)
   load-address-settled = settles 𝓤 word 8 (λ v. v .0)
+
+  pub load-sc3-settled : Settles 𝓤 (number w64) (load-sc3.clauses 𝓤 H A mem run)
+  load-sc3-settled = settles 𝓤 (number w64) 9 (λ v. v)
 
 pub load-settled : (κs : Lfts 0) (a : ArgsD numbered.signature κs) (r r′ : ResD numbered.signature κs) (s s′ : AtExit (endedOf 0 numbered-kinds.ps numbered-kinds.r) κs)
     → numbered-reads.Post κs a r s → numbered-reads.Post κs a r′ s′ → r ≡ r′

@@ -58,6 +58,8 @@ use Rattle.machine.proofs.Panel.load_target as own-target
 use Rattle.machine.proofs.Panel.load_target.Reads as own-target-reads
 use Rattle.machine.proofs.Panel.load_address as own-address
 use Rattle.machine.proofs.Panel.load_address.Reads as own-address-reads
+use Rattle.machine.proofs.Panel.load_sc3 as own-sc3
+use Rattle.machine.proofs.Panel.load_sc3.Reads as own-sc3-reads
 use Rattle.panel.proofs.Thin.{Value, number, word, signature, ended}
 use Rattle.panel.proofs.load_comp as load-comp
 use Rattle.panel.proofs.load_sdr as load-sdr
@@ -68,6 +70,7 @@ use Rattle.panel.proofs.load_key as load-key
 use Rattle.panel.proofs.load_care as load-care
 use Rattle.panel.proofs.load_target as load-target
 use Rattle.panel.proofs.load_address as load-address
+use Rattle.panel.proofs.load_sc3 as load-sc3
 
 pub plain-pulse-takes-any : (κs : Lfts 2) (a : ArgsD plain-pulse.signature κs) → plain-pulse-reads.Pre κs a
 plain-pulse-takes-any κs a = tt
@@ -138,6 +141,9 @@ own-target-takes-any κs a = tt
 pub own-address-takes-any : (κs : Lfts 0) (a : ArgsD own-address.signature κs) → own-address-reads.Pre κs a
 own-address-takes-any κs a = tt
 
+pub own-sc3-takes-any : (κs : Lfts 0) (a : ArgsD own-sc3.signature κs) → own-sc3-reads.Pre κs a
+own-sc3-takes-any κs a = tt
+
 -- the nine loads of a panel lent: their preconditions are formulas, which hold of nothing
 module _ {M : Type 1} (𝓤 : URA M) where
   abbrev pub TakesAny : (v : Value) → Clauses 𝓤 (ended v) → Type 1
@@ -170,3 +176,6 @@ module _ {M : Type 1} (𝓤 : URA M) (H : Heap 𝓤) (A : Atoms 𝓤) (mem : Mem
 
   pub load-address-takes-any : TakesAny 𝓤 word (load-address.clauses 𝓤 H A mem run)
   load-address-takes-any κs a g = id⊢ 𝓤 (emp 𝓤)
+
+  pub load-sc3-takes-any : TakesAny 𝓤 (number w64) (load-sc3.clauses 𝓤 H A mem run)
+  load-sc3-takes-any κs a g = id⊢ 𝓤 (emp 𝓤)

@@ -1,13 +1,13 @@
 -- What passing the checks shows, check by check. Document 01, 'Numbers given when a call is turned down', 1 to 7.
-use Prim.Native.Nat.{ℕ, zero, suc, _^_, _≤_, _<_}
+use Prim.Native.Nat.{ℕ, zero, suc, _-_, _^_, _≤_, _<_}
 use mathlib.Core.Path.{_≡_, refl, sym, ap, _∙_}
 use mathlib.Core.Bool.{Bool, true, false, not, _||_}
 use mathlib.Core.List.{List, [], _∷_}
 use native.Mathlib.Omega.{arith}
 use lib.Dec.{eqb}
 use lib.ListN.{length, getD}
-use lib.Pow.{pow-pos}
-use lib.Bits.{bitAnd, bitXor}
+use lib.Pow.{pow-pos, pow-mono}
+use lib.Bits.{bitAnd, bitOr}
 use borrow.Author.Tests.{leb-false, not-false}
 use Rattle.laws.specs.Bits.{pick}
 use Rattle.machine.specs.declared.Panel.{Panel}
@@ -20,12 +20,12 @@ use Rattle.machine.specs.Machine.{Machine, machine}
 use Rattle.machine.specs.Resolution.{lowest}
 use Rattle.machine.specs.Refusals.{tooWide, badPanel, badCodes, badAddress, machineCheck, pulseCheck}
 use Rattle.machine.proofs.Refusals.{or-left, or-right, width-pos, width-le, size-same, else-refused, else-next, sound, clean}
-use Rattle.fields.specs.Fields.{fields, aboveIn}
+use Rattle.fields.specs.Fields.{fields}
 use Rattle.fields.specs.Tops.{topsOf}
-use Rattle.fields.specs.Codes.{oneIn}
+use Rattle.fields.specs.Codes.{clash, setBits, unmixedIn}
 use Rattle.fields.proofs.Shape.{same-fields}
-use Rattle.fields.proofs.Codes.{clash, one-is}
-use Rattle.fields.proofs.Reader.{one-code-is}
+use Rattle.fields.proofs.Codes.{unmixed-word}
+use Rattle.fields.proofs.Mixing.{unmixed-is}
 use Rattle.masks.specs.Plan.{Fit}
 use Rattle.wide.specs.Accepted.{Accepted, restCheck}
 
@@ -50,7 +50,8 @@ words-fit n k (w ∷ ws) e j = go (tooWide n w) refl e (words-fit n (suc k) ws) 
 pub fit : (n : ℕ) (p : Panel) → 0 < n → n ≤ 64 → badPanel n p ≡ false → Fit n p
 unfolding badPanel
 fit n p pos most h =
-    let e = or-left _ (tooWide n (p .mor)) h in
+    let f = or-left _ (tooWide n (p .sc3)) h in
+    let e = or-left _ (tooWide n (p .mor)) f in
     let d = or-left _ (tooWide n (p .sc2)) e in
     let c = or-left _ (tooWide n (p .sc1)) d in
     record {
@@ -60,21 +61,25 @@ fit n p pos most h =
       sdr = leb-false _ _ (or-right (tooWide n (p .comp)) (tooWide n (p .sdr)) c);
       sc1 = leb-false _ _ (or-right (tooWide n (p .comp) || tooWide n (p .sdr)) (tooWide n (p .sc1)) d);
       sc2 = leb-false _ _ (or-right (tooWide n (p .comp) || tooWide n (p .sdr) || tooWide n (p .sc1)) (tooWide n (p .sc2)) e);
-      mor = leb-false _ _ (or-right (tooWide n (p .comp) || tooWide n (p .sdr) || tooWide n (p .sc1) || tooWide n (p .sc2)) (tooWide n (p .mor)) h);
+      mor = leb-false _ _ (or-right (tooWide n (p .comp) || tooWide n (p .sdr) || tooWide n (p .sc1) || tooWide n (p .sc2)) (tooWide n (p .mor)) f);
+      sc3 = leb-false _ _ (or-right (tooWide n (p .comp) || tooWide n (p .sdr) || tooWide n (p .sc1) || tooWide n (p .sc2) || tooWide n (p .mor)) (tooWide n (p .sc3)) h);
     }
 
 -- ---- 5 and 7
 
-pub two-codes : (n : ℕ) (p : Panel) (l : Lines) (t x y z : ℕ) → 0 < n → l .search ≡ true → t ≡ topsOf n (p .sdr)
-    → x ≡ aboveIn (fields n t) (p .sc1) 0 0 → y ≡ aboveIn (fields n t) (p .sc2) 0 0 → z ≡ aboveIn (fields n t) (bitXor (p .sc1) (p .sc2)) 0 0
-    → not (eqb (bitAnd (bitAnd x y) z) 0) ≡ badCodes n p l
-unfolding badCodes clash
-two-codes n p l t x y z pos s e ex ey ez =
-    rw (ex, ey, ez, e, same-fields n (p .sdr) pos, s) (ap not (one-is (fields n (p .sdr)) (p .sc1) (p .sc2) ∙ sym (one-code-is n p)))
-
-codes-fit : (n : ℕ) (p : Panel) (l : Lines) → badCodes n p l ≡ false → l .search ≡ true → oneIn (fields n (p .sdr)) (p .sc1) (p .sc2) ≡ true
+pub two-codes : (n : ℕ) (p : Panel) (l : Lines) (t x y : ℕ) → Fit n p → l .search ≡ true → t ≡ topsOf n (p .sdr)
+    → x ≡ clash (fields n t) (p .sc1) (p .sc2) → y ≡ clash (fields n t) (setBits (p .sc1) (p .sc2) (p .sc3)) (bitOr (p .sc1) (p .sc2))
+    → not (eqb (bitOr (bitOr x y) (bitAnd (p .sc3) (2 ^ 64 - 1 - p .sc1))) 0) ≡ badCodes n p l
 unfolding badCodes
-codes-fit n p l h s = sym (one-code-is n p) ∙ not-false _ (rw s at h)
+two-codes n p l t x y f s e ex ey =
+    let most : 2 ^ n ≤ 2 ^ 64 = pow-mono (f .most) in
+    rw (ex, ey, e, same-fields n (p .sdr) (f .least), s)
+    (ap not (unmixed-word (fields n (p .sdr)) (p .sc1) (p .sc2) (p .sc3) (omega (arith, f .sc1)) (omega (arith, f .sc3)) ∙ sym (unmixed-is n p (f .sc3))))
+
+codes-fit : (n : ℕ) (p : Panel) (l : Lines) → Fit n p → badCodes n p l ≡ false → l .search ≡ true
+    → unmixedIn (fields n (p .sdr)) (p .sc1) (p .sc2) (p .sc3) ≡ true
+unfolding badCodes
+codes-fit n p l f h s = sym (unmixed-is n p (f .sc3)) ∙ not-false _ (rw s at h)
 
 address-fits : (m : ℕ) (p : Panel) (l : Lines) → badAddress m p l ≡ false → (l .read || l .write || l .add) ≡ true → p .address .0 < m
 unfolding badAddress
@@ -100,10 +105,11 @@ pub accepted : (n : ℕ) (p : Panel) (l : Lines) (ws rs : List ℕ) → pulseChe
 accepted n p l ws rs h =
     let c = clean (machine n ws rs) p l h in
     let s = c .sound in
+    let f = fit n p (width-pos n (s .width)) (width-le n (s .width)) (c .panel) in
     record {
-      fit = fit n p (width-pos n (s .width)) (width-le n (s .width)) (c .panel);
+      fit = f;
       size = size-same (length ws) (length rs) (s .size);
       words = words-fit n 0 ws (s .words);
-      codes = codes-fit n p l (c .codes);
+      codes = codes-fit n p l f (c .codes);
       address = address-fits (length ws) p l (c .address);
     }

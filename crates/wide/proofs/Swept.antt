@@ -19,6 +19,7 @@ use Rattle.sweeps.specs.declared.Tags.{Tags}
 use Rattle.sweeps.specs.declared.Changes.{Changes}
 use Rattle.sweeps.specs.Along.{along, each}
 use Rattle.sweeps.specs.Rules.{chosen, found, answer, new, changed, takes, flipped}
+use Rattle.fields.proofs.Settings.{unmixed}
 use Rattle.masks.specs.Plan.{Fit, masksOf, tagsOf, changesOf}
 use Rattle.wide.specs.Accepted.{Accepted, multiAfter}
 use Rattle.wide.proofs.Lists.{second-along, first-along, second-each, first-stays, second-stays, count-turned, zip-like, count-like, zip-same, zip-set}
@@ -60,7 +61,7 @@ module _ (n : ℕ) (p : Panel) (l : Lines) (ws rs : List ℕ) (a : Accepted n p 
         h
         ∙ ap₂ (λ (i : Masks) (j : Tags). count (found i j) ws rs) e g
         ∙ count-like _ _ (λ w r.
-        found-is n p (a .fit) care target (a .codes s) w r ∙ sym (ap (λ (x : Bool). pick x (matches n p w r) (selected (p .key) (p .care) r)) s)) ws rs
+        found-is n p (a .fit) care target (unmixed _ _ _ _ (a .codes s)) w r ∙ sym (ap (λ (x : Bool). pick x (matches n p w r) (selected (p .key) (p .care) r)) s)) ws rs
 
     pub matches-mark : (b : Masks) (t : Tags) {rs′ : List ℕ} → b ≡ masksOf n p → t ≡ tagsOf p → rs′ ≡ along (answer b t) ws rs
         → rs′ ≡ zip (responseAfter n p l) 0 ws rs
@@ -69,7 +70,7 @@ module _ (n : ℕ) (p : Panel) (l : Lines) (ws rs : List ℕ) (a : Accepted n p 
         h
         ∙ ap₂ (λ (i : Masks) (j : Tags). along (answer i j) ws rs) e g
         ∙ second-along (answer (masksOf n p) (tagsOf p)) 0 ws rs (a .size)
-        ∙ like _ _ (λ k w r hw hr. answer-is n p (a .fit) care target (a .codes s) w r hr ∙ rw s refl)
+        ∙ like _ _ (λ k w r hw hr. answer-is n p (a .fit) care target (unmixed _ _ _ _ (a .codes s)) w r hr ∙ rw s refl)
 
   -- ---- search not raised
 

@@ -13,7 +13,7 @@ use Rattle.machine.specs.Machine.{selected}
 use Rattle.machine.specs.Pulse.{written, added, change}
 use Rattle.machine.specs.Refusals.{badPanel, badCodes, refuse, _else_, commandCheck}
 use Rattle.fields.specs.Fields.{fields}
-use Rattle.fields.specs.Codes.{oneIn}
+use Rattle.fields.specs.Codes.{unmixedIn}
 use Rattle.masks.specs.Plan.{Fit}
 
 -- 1 to 5 and 7
@@ -21,7 +21,7 @@ pub record Accepted (n : ℕ) (p : Panel) (l : Lines) (ws rs : List ℕ) : Type 
   pub fit : Fit n p
   pub size : length rs ≡ length ws
   pub words : (j : ℕ) → getD ws j 0 < 2 ^ n
-  pub codes : l .search ≡ true → oneIn (fields n (p .sdr)) (p .sc1) (p .sc2) ≡ true
+  pub codes : l .search ≡ true → unmixedIn (fields n (p .sdr)) (p .sc1) (p .sc2) (p .sc3) ≡ true
   pub address : (l .read || l .write || l .add) ≡ true → p .address .0 < length ws
 
 -- 4 to 7

@@ -18,25 +18,25 @@ use machine::Lines;
 use machine::Panel;
 use machine::Refusal;
 use machine::Response;
-use masks::filled;
 use masks::make_changes;
 use masks::make_masks;
 use masks::make_tags;
+use masks::mixed;
 use masks::tops_of;
 
 // ---- the checks, 1 to 7
 
-// 5: a syllable in which SC1, SC2 and their difference all have a one.
+// 5: a syllable in which SC1 and SC2 are mixed, one in which SC3's cared bits and all cared bits are, or SC3 over a bit that SC1 doesn't have.
 fn bad_codes(width: u32, panel: Panel, lines: Lines) -> bool
     requires { ⌜ Fit width panel ⌝ }
     ensures { λ r. ⌜ r ≡ badCodes width panel lines ⌝ }
 {
     if lines.search {
         let t = tops_of(width, panel.sdr);
-        let x = filled(width, t, panel.sc1);
-        let y = filled(width, t, panel.sc2);
-        let z = filled(width, t, panel.sc1 ^ panel.sc2);
-        let two = x & y & z;
+        let care = panel.sc1 | panel.sc2;
+        let codes = mixed(width, t, panel.sc1, panel.sc2);
+        let settings = mixed(width, t, panel.sc3 & care, care);
+        let two = codes | settings | (panel.sc3 & !panel.sc1);
         !(two == 0)
     } else {
         false

@@ -84,7 +84,7 @@ fn lowest_of_a_pulse(tally: &mut Tally) {
     let no_width: Spoil = |host| host.width = 0;
     let great_width: Spoil = |host| host.width = 256 + 8;
     let wide_word: Spoil = |host| host.words[1] = 0x100;
-    let short_panel: Spoil = |host| host.panel.truncate(8);
+    let short_panel: Spoil = |host| host.panel.truncate(9);
     let no_responses: Spoil = |host| host.responses.clear();
     let nothing: Spoil = |_| {};
     let cases: [(&str, &[Spoil], u8, u32, u64); 14] = [
@@ -162,22 +162,22 @@ fn empty_buffers(tally: &mut Tally) {
 /// A load changes one register, or none.
 fn loads(tally: &mut Tally) {
     let mut host = Host::new(8, &[0]);
-    for register in 0..9 {
-        host.panel = vec![3; 9];
+    for register in 0..10 {
+        host.panel = vec![3; PANEL];
         tally.same("load", host.load(register, 200), 0);
-        let mut after = vec![3; 9];
+        let mut after = vec![3; PANEL];
         after[usize::from(register)] = 200;
         tally.same("load", host.panel.clone(), after);
     }
     let cases: [(&str, u8, u64, u64, u32); 5] = [
         ("wide load", 6, 256, 3, 4),
         ("address", 8, u64::MAX, 3, 0),
-        ("no such register", 9, 0, 3, 4),
+        ("no such register", 10, 0, 3, 4),
         ("panel too wide", 0, 1, 256, 4),
         ("no mending", 5, 1, 256, 4),
     ];
     for (name, register, value, key, number) in cases {
-        host.panel = vec![3; 9];
+        host.panel = vec![3; PANEL];
         host.panel[KEY] = key;
         let before = host.panel.clone();
         tally.same(name, host.load(register, value), number);
@@ -251,20 +251,24 @@ fn job_refusals(tally: &mut Tally) {
         tally.same("start", job, vec![1; length]);
     }
     let mut first = extreme(1, 0);
-    tally.same("no step", host.step(&mut []), refused(8, 0, 14));
+    tally.same("no step", host.step(&mut []), refused(8, 0, STEP_ANSWER));
     tally.same(
         "short record",
         host.step(&mut first[..21]),
-        refused(1, 0, 14),
+        refused(1, 0, STEP_ANSWER),
     );
     tally.same("no total", host.total(&[]), refused(8, 0, 3));
     tally.same("short record", host.total(&first[..1]), refused(1, 0, 3));
-    tally.same("ended", host.step(&mut [0; 22]), refused(8, 0, 14));
+    tally.same("ended", host.step(&mut [0; 22]), refused(8, 0, STEP_ANSWER));
     host.step(&mut first);
     tally.same("total later", host.total(&first), refused(8, 0, 3));
     let mut unused = extreme(1, 0);
     unused[21] = 1;
-    tally.same("unused field", host.step(&mut unused), refused(8, 0, 14));
+    tally.same(
+        "unused field",
+        host.step(&mut unused),
+        refused(8, 0, STEP_ANSWER),
+    );
 }
 
 /// The example of docs/BOARD.md, operation by operation.

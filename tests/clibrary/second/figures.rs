@@ -1,8 +1,10 @@
-//! Document 01's figures 1 to 13 through the second_ functions, and examples
-//! of what the header adds (examples.rs). All expected values were worked out
-//! by hand from the document and the header, none was copied from a run.
+//! Document 01's figures 1 to 13 through the second_ functions, figures of
+//! request c of document 02 (at_least.rs), and examples of what the header adds
+//! (examples.rs). All expected values were worked out by hand from the documents
+//! and the header, none was copied from a run.
 //! Prints each difference and, last, 'N passed, M failed'.
 
+mod at_least;
 mod examples;
 mod hosts;
 
@@ -153,7 +155,7 @@ fn work(tally: &mut Tally, work: Work) {
         let (number, answer) = host.step(&mut job);
         assert_eq!(number, 0, "{name}");
         pulses += 1;
-        if answer[13] == 0 {
+        if answer[STEP_ANSWER - 1] == 0 {
             break;
         }
     }
@@ -226,20 +228,21 @@ fn figure_11(tally: &mut Tally) {
 }
 
 /// The first three commands of figure 9's greatest, number by number: the
-/// opening; the trial of bit 3, which word 1 alone has; the narrowing to it.
+/// opening; the trial of bit 3, which word 1 alone has; the narrowing to it. Of
+/// each SC3, the last register, is told as 0: "Jobs set it to 0."
 fn commands(tally: &mut Tally) {
     let mut host = Host::of_the_figures();
     let mut job = extreme(1, 0);
     let search = u64::from(SEARCH);
-    let opening = [0, 0, 0, 0, 0, 0, 0, 1, 0, search, 3, 1];
+    let opening = [0, 0, 0, 0, 0, 0, 0, 1, 0, 0, search, 3, 1];
     tally.same("opening", host.step(&mut job), accepted(&opening));
     tally.same("opening", host.responses.clone(), vec![1, 1, 1]);
     tally.same("opening", job[11..14].to_vec(), vec![1, 3, 0]);
-    let trial = [8, 0, 0, 8, 0, 1, 1, 2, 0, search, 1, 1];
+    let trial = [8, 0, 0, 8, 0, 1, 1, 2, 0, 0, search, 1, 1];
     tally.same("trial", host.step(&mut job), accepted(&trial));
     tally.same("trial", host.responses.clone(), vec![1, 3, 1]);
     tally.same("trial", job[11..14].to_vec(), vec![2, 3, 0]);
-    let narrowing = [0, 0, 0, 0, 0, 2, 2, 1, 0, search, 1, 1];
+    let narrowing = [0, 0, 0, 0, 0, 2, 2, 1, 0, 0, search, 1, 1];
     tally.same("narrowing", host.step(&mut job), accepted(&narrowing));
     tally.same("narrowing", host.responses.clone(), vec![0, 3, 0]);
     tally.same("narrowing", job[11..14].to_vec(), vec![1, 2, 0]);
@@ -251,7 +254,7 @@ fn adding_command(tally: &mut Tally) {
     let mut host = Host::of_the_figures();
     let mut job = wish(3, 0, [[0, 4], [0, 0], [4, 4]], 3);
     host.start(&[], &mut job);
-    let trial = [1, 0, 0, 1, 0, 0, 0, 2, 0, u64::from(SEARCH), 2, 1];
+    let trial = [1, 0, 0, 1, 0, 0, 0, 2, 0, 0, u64::from(SEARCH), 2, 1];
     tally.same("adding trial", host.step(&mut job), accepted(&trial));
     let sum = [
         0x30,
@@ -261,6 +264,7 @@ fn adding_command(tally: &mut Tally) {
         0xF0,
         2,
         2,
+        0,
         0,
         0,
         u64::from(MULTIADD),
@@ -341,6 +345,7 @@ fn main() {
     adding_command(&mut tally);
     figure_12(&mut tally);
     figure_13(&mut tally);
+    at_least::run(&mut tally);
     examples::run(&mut tally);
     println!("{} passed, {} failed", tally.passed, tally.failed);
     std::process::exit(i32::from(tally.failed > 0));

@@ -19,6 +19,12 @@ pub const KEY: usize = 5;
 pub const CARE: usize = 6;
 pub const TARGET: usize = 7;
 pub const ADDRESS: usize = 8;
+pub const SC3: usize = 9;
+
+/// How many registers a panel has, and how many numbers a step's answer: two,
+/// the registers, and three more.
+pub const PANEL: usize = 10;
+pub const STEP_ANSWER: usize = 2 + PANEL + 3;
 
 /// The line byte's bits.
 pub const SEARCH: u8 = 1;
@@ -83,7 +89,7 @@ impl Host {
             words: words.to_vec(),
             responses: vec![0; words.len()],
             width,
-            panel: vec![0; 9],
+            panel: vec![0; PANEL],
         }
     }
 
@@ -233,8 +239,9 @@ impl Host {
         (number, answer)
     }
 
-    pub fn step(&mut self, job: &mut [u8]) -> (u32, Vec<u64>) {
-        let mut answer = vec![OLD; 14];
+    /// A step with an answer's buffer of so many numbers.
+    pub fn step_into(&mut self, job: &mut [u8], room: usize) -> (u32, Vec<u64>) {
+        let mut answer = vec![OLD; room];
         let number = unsafe {
             second_step(
                 self.words.as_mut_ptr(),
@@ -249,6 +256,10 @@ impl Host {
             )
         };
         (number, answer)
+    }
+
+    pub fn step(&mut self, job: &mut [u8]) -> (u32, Vec<u64>) {
+        self.step_into(job, STEP_ANSWER)
     }
 
     pub fn total(&self, job: &[u8]) -> (u32, Vec<u64>) {

@@ -1,4 +1,4 @@
-//! The panel as a buffer of nine numbers, the line byte, and the load of one
+//! The panel as a buffer of ten numbers, the line byte, and the load of one
 //! register.
 
 use crate::calls::{unless, Judged};
@@ -7,12 +7,12 @@ use processor::machine::Refusal;
 use processor::panel::{Lines, Panel};
 
 /// How many registers a panel has.
-pub const REGISTERS: usize = 9;
+pub const REGISTERS: usize = 10;
 
 /// The registers of 8 bits: key, care and target.
 const BYTES: std::ops::Range<usize> = 5..8;
 
-/// The nine registers. 1: "a panel of a wrong length".
+/// The ten registers. 1: "a panel of a wrong length".
 pub fn registers_of(panel: &Lent<u64>) -> Result<Vec<u64>, Refusal> {
     unless(panel.length() == REGISTERS, 1)?;
     Ok(panel.first(REGISTERS))
@@ -28,7 +28,7 @@ pub fn line_byte_fits(lines: u8) -> Judged {
     unless(lines & 128 == 0, 6)
 }
 
-/// The panel of nine registers. Of a register that is too wide for its byte
+/// The panel of ten registers. Of a register that is too wide for its byte
 /// the low bits are taken: the call is then turned down, and what they are
 /// makes no difference to any number.
 pub fn panel_of(registers: &[u64]) -> Panel {
@@ -42,15 +42,17 @@ pub fn panel_of(registers: &[u64]) -> Panel {
         care: registers[6] as u8,
         target: registers[7] as u8,
         address: registers[8],
+        sc3: registers[9],
     }
 }
 
-/// A panel's nine registers, each at the place of its number.
+/// A panel's ten registers, each at the place of its number: SC3, which came
+/// last, stands last.
 pub fn numbers_of(panel: &Panel) -> Vec<u64> {
     let bytes = [panel.key, panel.care, panel.target];
     let mut numbers = vec![panel.comp, panel.sdr, panel.sc1, panel.sc2, panel.mor];
     numbers.extend(bytes.iter().map(|byte| u64::from(*byte)));
-    numbers.push(panel.address);
+    numbers.extend([panel.address, panel.sc3]);
     numbers
 }
 

@@ -109,7 +109,7 @@ impl Writer {
     /// A fresh array. A small one gets all its words, a large one a few and
     /// then a write to many, since a script has no room for each.
     fn new_array(&mut self) {
-        let width = values::any_width(&mut self.rng);
+        let width = values::array_width(&mut self.rng);
         let n = values::array_size(&mut self.rng);
         self.say(format!("cells3 {width} {n}"));
         if n <= 8 {

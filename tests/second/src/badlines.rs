@@ -5,12 +5,13 @@ use crate::writer::Writer;
 use processor::line::LONGEST;
 
 /// One good line of each command.
-const GOOD: [&str; 34] = [
+const GOOD: [&str; 35] = [
     "machine 8 3",
     "lend 3",
     "word 0 35",
     "response 0 FF",
     "load comp 34",
+    "load sc3 0F",
     "load key 7f",
     "load address 2",
     "pulse search read",
@@ -74,7 +75,7 @@ const ODD: [&str; 26] = [
 
 /// The ranges of the language: a line's beginning, a word at the edge of its
 /// range, one beyond it, and the line's end.
-const RANGES: [[&str; 4]; 30] = [
+const RANGES: [[&str; 4]; 31] = [
     ["machine ", "255", "256", " 3"],
     ["machine 8 ", "2048", "2049", ""],
     ["lend ", "2048", "2049", ""],
@@ -82,6 +83,7 @@ const RANGES: [[&str; 4]; 30] = [
     ["word 0 ", "0000000000000001", "00000000000000001", ""],
     ["response 0 ", "FF", "100", ""],
     ["load comp ", "ffffffffffffffff", "0ffffffffffffffff", ""],
+    ["load sc3 ", "00000000000000f0", "000000000000000f0", ""],
     ["load key ", "ff", "100", ""],
     ["load care ", "00000000000000fF", "000000000000000fF", ""],
     ["load target ", "0FF", "FFF", ""],

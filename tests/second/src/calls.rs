@@ -32,6 +32,9 @@ impl Writer {
         if self.rng.once_in(2) {
             self.fill();
             self.load_panel();
+            self.load_search();
+            let lines = self.lines();
+            self.say(format!("pulse {lines}"));
         }
     }
 

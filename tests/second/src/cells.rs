@@ -22,7 +22,8 @@ enum Status {
 
 /// One cell. "A don't-care bit passes it on. Exact: a difference settles
 /// against. Larger: word 1 with COMP 0 settles for, word 0 with COMP 1
-/// against; smaller is the mirror. A settled status stays."
+/// against; smaller is the mirror. A settled status stays." At least settles as
+/// larger does, and at most as smaller.
 fn pass(status: Status, code: Code, word_bit: u64, comp_bit: u64) -> Status {
     if status != Status::Equal || word_bit == comp_bit {
         return status;
@@ -31,20 +32,22 @@ fn pass(status: Status, code: Code, word_bit: u64, comp_bit: u64) -> Status {
     match code {
         Code::DontCare => status,
         Code::Exact => Status::Against,
-        Code::Larger if word_has_one => Status::For,
-        Code::Larger => Status::Against,
-        Code::Smaller if word_has_one => Status::Against,
-        Code::Smaller => Status::For,
+        Code::Larger | Code::AtLeast if word_has_one => Status::For,
+        Code::Larger | Code::AtLeast => Status::Against,
+        Code::Smaller | Code::AtMost if word_has_one => Status::Against,
+        Code::Smaller | Code::AtMost => Status::For,
     }
 }
 
 /// "Exact wants "equal" at the bottom, larger and smaller want "settled for"."
-/// A syllable of don't-cares wants nothing.
+/// A syllable of don't-cares wants nothing. 02 c: for at least and at most "equal
+/// at the bottom also satisfies".
 fn wanted(status: Status, code: Code) -> bool {
     match code {
         Code::DontCare => true,
         Code::Exact => status == Status::Equal,
         Code::Larger | Code::Smaller => status == Status::For,
+        Code::AtLeast | Code::AtMost => status != Status::Against,
     }
 }
 

@@ -132,6 +132,7 @@ impl Console {
             b"sdr" => self.panel.sdr = hex(value, u64::MAX)?,
             b"sc1" => self.panel.sc1 = hex(value, u64::MAX)?,
             b"sc2" => self.panel.sc2 = hex(value, u64::MAX)?,
+            b"sc3" => self.panel.sc3 = hex(value, u64::MAX)?,
             b"mor" => self.panel.mor = hex(value, u64::MAX)?,
             b"key" => self.panel.key = hex_byte(value)?,
             b"care" => self.panel.care = hex_byte(value)?,
@@ -362,11 +363,12 @@ fn count_text(count: usize) -> String {
 
 fn registers_text(panel: &Panel) -> String {
     format!(
-        "comp {:016X} sdr {:016X} sc1 {:016X} sc2 {:016X} mor {:016X} key {:02X} care {:02X} target {:02X}",
+        "comp {:016X} sdr {:016X} sc1 {:016X} sc2 {:016X} sc3 {:016X} mor {:016X} key {:02X} care {:02X} target {:02X}",
         panel.comp,
         panel.sdr,
         panel.sc1,
         panel.sc2,
+        panel.sc3,
         panel.mor,
         panel.key,
         panel.care,

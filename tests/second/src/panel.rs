@@ -6,6 +6,7 @@ pub struct Panel {
     pub sdr: u64,
     pub sc1: u64,
     pub sc2: u64,
+    pub sc3: u64,
     pub mor: u64,
     pub key: u8,
     pub care: u8,

@@ -2,7 +2,7 @@
 
 use crate::machine::{is_selected, is_stray, refused, Machine, Refusal};
 use crate::panel::{Lines, Panel};
-use crate::syllable::{code_of, syllables};
+use crate::syllable::{code_of, has_idle_one, syllables};
 
 /// How one word is searched, written and added to. Each takes the word, the
 /// panel and the width.
@@ -36,17 +36,22 @@ pub fn pulse(
 
 /// 4: "a panel register has such a one", at or above bit N.
 fn check_registers(machine: &Machine, panel: &Panel) -> Result<(), Refusal> {
-    let registers = [panel.comp, panel.sdr, panel.sc1, panel.sc2, panel.mor];
+    let registers = [
+        panel.comp, panel.sdr, panel.sc1, panel.sc2, panel.sc3, panel.mor,
+    ];
     if registers.iter().any(|r| is_stray(*r, machine.width)) {
         return refused(4);
     }
     Ok(())
 }
 
-/// 5: "search raised, a syllable with two codes".
+/// 5: "search raised, a syllable with two codes". 02 c: "5 also covers two SC3
+/// settings among one syllable's cared bits, or a one of SC3 over an exact or
+/// don't-care bit".
 fn check_codes(machine: &Machine, panel: &Panel, lines: Lines) -> Result<(), Refusal> {
     let mut all = syllables(panel.sdr, machine.width).into_iter();
-    if lines.search && all.any(|syllable| code_of(panel, syllable).is_none()) {
+    let is_wrong = |syllable| code_of(panel, syllable).is_none() || has_idle_one(panel, syllable);
+    if lines.search && all.any(is_wrong) {
         return refused(5);
     }
     Ok(())

@@ -3,6 +3,7 @@
 //! after it are the same; `# ends` that the five commands after it show a job
 //! from its start to its stated end.
 
+use crate::codes::{self, Codes};
 use crate::values;
 use crate::writer::{digits, Writer};
 use processor::image::{self, compose};
@@ -14,7 +15,7 @@ impl Writer {
     /// One scene, after what may be out of order has been set right.
     pub fn scene(&mut self) {
         self.heal();
-        match self.rng.below(122) {
+        match self.rng.below(136) {
             0..=6 => self.new_machine(),
             7..=10 => self.fill(),
             11..=24 => self.some_pulses(),
@@ -35,6 +36,9 @@ impl Writer {
             91..=95 => self.edge_of_a_range(),
             96..=97 => self.edge_of_a_line(),
             98..=99 => self.quiet_line(),
+            100..=106 => self.search_at_its_edge(),
+            107..=110 => self.every_way(),
+            111..=113 => self.wrong_search(),
             _ => self.array_scene(),
         }
     }
@@ -57,6 +61,7 @@ impl Writer {
             ("sdr", panel.sdr),
             ("sc1", panel.sc1),
             ("sc2", panel.sc2),
+            ("sc3", panel.sc3),
             ("mor", panel.mor),
         ];
         for (name, value) in registers {
@@ -157,11 +162,25 @@ impl Writer {
             self.load("sdr", sdr);
         }
         let sdr = self.model.panel.sdr;
-        let (sc1, sc2) = values::codes(&mut self.rng, sdr, width);
-        let sc1 = values::perhaps_stray(&mut self.rng, width, sc1);
-        let sc2 = values::perhaps_stray(&mut self.rng, width, sc2);
-        self.load("sc1", sc1);
-        self.load("sc2", sc2);
+        let mut codes = codes::any(&mut self.rng, sdr, width);
+        for register in [&mut codes.sc1, &mut codes.sc2, &mut codes.sc3] {
+            *register = values::perhaps_stray(&mut self.rng, width, *register);
+        }
+        self.load_codes(codes);
+    }
+
+    pub fn load_codes(&mut self, codes: Codes) {
+        self.load("sc1", codes.sc1);
+        self.load("sc2", codes.sc2);
+        self.load("sc3", codes.sc3);
+    }
+
+    /// SC3 alone: none of it, over all that is larger or smaller, or anything.
+    fn load_setting(&mut self) {
+        let sc1 = self.model.panel.sc1;
+        let any = self.number();
+        let sc3 = self.rng.pick(&[0, sc1, sc1, any]);
+        self.load("sc3", sc3);
     }
 
     /// COMP, MOR and the address.
@@ -183,8 +202,10 @@ impl Writer {
 
     pub fn load_panel(&mut self) {
         self.load_selection();
-        if self.rng.once_in(2) {
-            self.load_search();
+        match self.rng.below(16) {
+            0..=7 => self.load_search(),
+            8 => self.load_setting(),
+            _ => {}
         }
         self.load_change();
     }
@@ -261,7 +282,7 @@ impl Writer {
     }
 
     /// These lines on both machines, from the same image.
-    fn on_both(&mut self, lines: &str) {
+    pub fn on_both(&mut self, lines: &str) {
         if self.model.machine.check().is_err() {
             self.say("# same 1 2");
             self.say(format!("pulse {lines}"));

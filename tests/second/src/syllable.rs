@@ -50,27 +50,43 @@ pub fn syllables(sdr: u64, width: u8) -> Vec<Syllable> {
     found
 }
 
-/// The code of one bit.
+/// The code of one bit, with its setting of SC3.
 #[derive(Clone, Copy, Debug, PartialEq, Eq)]
 pub enum Code {
     DontCare,
     Exact,
     Larger,
     Smaller,
+    AtLeast,
+    AtMost,
 }
 
-/// "(SC1, SC2): 00 don't care, 01 exact, 10 larger, 11 smaller".
+/// "(SC1, SC2): 00 don't care, 01 exact, 10 larger, 11 smaller". 02 c: "With a
+/// one there" in SC3 "larger becomes at least and smaller at most"; over the
+/// other two codes a one has no meaning, and a search with it is turned down.
 pub fn code_at(panel: &Panel, place: u32) -> Code {
+    let also_equal = bit(panel.sc3, place) == 1;
     match (bit(panel.sc1, place), bit(panel.sc2, place)) {
         (0, 0) => Code::DontCare,
         (0, _) => Code::Exact,
+        (_, 0) if also_equal => Code::AtLeast,
         (_, 0) => Code::Larger,
+        (_, _) if also_equal => Code::AtMost,
         (_, _) => Code::Smaller,
     }
 }
 
+/// Whether SC3 has "a one over an exact or don't-care bit" of a syllable.
+pub fn has_idle_one(panel: &Panel, syllable: Syllable) -> bool {
+    syllable.places().any(|place| {
+        let idle = [Code::Exact, Code::DontCare].contains(&code_at(panel, place));
+        idle && bit(panel.sc3, place) == 1
+    })
+}
+
 /// The one code of a syllable's bits other than don't-care ones: don't care
-/// if it has none, and nothing if it has two.
+/// if it has none, and nothing if it has two. "Two SC3 settings among one
+/// syllable's cared bits" are two codes, since larger and at least are.
 pub fn code_of(panel: &Panel, syllable: Syllable) -> Option<Code> {
     let mut found = Code::DontCare;
     for place in syllable.places() {

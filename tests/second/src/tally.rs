@@ -10,6 +10,7 @@ use std::collections::BTreeMap;
 
 mod arrayfacts;
 mod arrayneeds;
+mod comparing;
 mod facts;
 mod meetings;
 mod needed;

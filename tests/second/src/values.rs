@@ -5,7 +5,6 @@ use crate::rng::Rng;
 use processor::image::compose;
 use processor::jobs::{Job, Span, PRODUCT, SCALED};
 use processor::machine::{one_at, ones, Machine};
-use processor::syllable::syllables;
 
 /// A width the machine takes, most often one at an edge.
 pub fn good_width(rng: &mut Rng) -> u8 {
@@ -22,6 +21,16 @@ pub fn any_width(rng: &mut Rng) -> u8 {
         rng.pick(&[0, 65, 66, 128, 255])
     } else {
         good_width(rng)
+    }
+}
+
+/// A width for an array of three-state cells: any alike more often than for a
+/// machine, since each is operated on for a few scenes only.
+pub fn array_width(rng: &mut Rng) -> u8 {
+    if rng.once_in(3) {
+        any_width(rng)
+    } else {
+        rng.between(1, 64) as u8
     }
 }
 
@@ -94,19 +103,21 @@ pub fn number(rng: &mut Rng, width: u8, known: &[u64]) -> u64 {
     chosen & ones(width)
 }
 
-/// A number to hold against the words: most often equal to one of them or one
-/// bit away from it.
+/// A number to hold against the words: most often equal to one of them, or one
+/// bit or one number away from it.
 pub fn comparand(rng: &mut Rng, width: u8, known: &[u64]) -> u64 {
     if known.is_empty() || rng.once_in(4) {
         return number(rng, width, known);
     }
     let width = u32::from(width.clamp(1, 64));
-    let away = if rng.once_in(2) {
-        0
-    } else {
-        one_at(rng.below(u64::from(width)) as u32)
+    let word = rng.pick(known);
+    let chosen = match rng.below(8) {
+        0..=3 => word,
+        4 => word.wrapping_add(1),
+        5 => word.wrapping_sub(1),
+        _ => word ^ one_at(rng.below(u64::from(width)) as u32),
     };
-    (rng.pick(known) ^ away) & ones(width)
+    chosen & ones(width)
 }
 
 /// The same number, now and then with a one at or above the width.
@@ -160,37 +171,6 @@ pub fn definition(rng: &mut Rng, width: u8) -> u64 {
     chosen & mask
 }
 
-/// Codes for a search: SC1 and SC2. Well formed are those with one code in
-/// each syllable; mixed ones are left to chance. Where many syllables care,
-/// hardly a word matches, so half of the time one alone does.
-pub fn codes(rng: &mut Rng, sdr: u64, width: u8) -> (u64, u64) {
-    let mask = ones(u32::from(width.min(64)));
-    if rng.once_in(12) {
-        return (rng.next() & mask, rng.next() & mask);
-    }
-    let (mut sc1, mut sc2) = (0, 0);
-    let all = syllables(sdr, width.min(64));
-    let alone = rng.once_in(2).then(|| rng.below(all.len() as u64) as usize);
-    for (index, syllable) in all.into_iter().enumerate() {
-        if alone.map_or(false, |chosen| chosen != index) {
-            continue;
-        }
-        let kept = match rng.below(4) {
-            0 => rng.next(),
-            1 => rng.next() | rng.next(),
-            _ => u64::MAX,
-        };
-        let bits = syllable.bits() & kept;
-        let code = rng.pick(&[0, 1, 1, 2, 2, 2, 3, 3, 3]);
-        sc1 |= if code >= 2 { bits } else { 0 };
-        sc2 |= if code % 2 == 1 { bits } else { 0 };
-    }
-    if rng.once_in(15) {
-        sc2 ^= one_at(rng.below(u64::from(width)) as u32) & mask;
-    }
-    (sc1, sc2)
-}
-
 /// A machine that 1 to 3 have nothing against.
 pub fn machine(rng: &mut Rng, width: u8, n: usize) -> Machine {
     let mut machine = Machine::blank(width, n);
@@ -221,6 +201,20 @@ fn span_within(rng: &mut Rng, least: u8, most: u8) -> Span {
     }
 }
 
+/// A syllable within these bits that shares none with another one there, if
+/// there is room for such a one.
+fn span_apart(rng: &mut Rng, within: (u8, u8), other: Span) -> Span {
+    let (least, most) = within;
+    let sides = [(least, other.low), (other.low + other.width, most)];
+    let room: Vec<(u8, u8)> = sides.into_iter().filter(|(from, to)| from < to).collect();
+    let (from, to) = if room.is_empty() {
+        within
+    } else {
+        rng.pick(&room)
+    };
+    span_within(rng, from, to)
+}
+
 /// The syllables A, B and P: P beside the two others, often touching them; A
 /// and B apart, overlapping or equal. A width of 1 has no room for both.
 fn spans(rng: &mut Rng, width: u8) -> (Span, Span, Span) {
@@ -236,10 +230,10 @@ fn spans(rng: &mut Rng, width: u8) -> (Span, Span, Span) {
         ((cut, width), (0, cut))
     };
     let a = span_within(rng, factors.0, factors.1);
-    let b = if rng.once_in(3) {
-        a
-    } else {
-        span_within(rng, factors.0, factors.1)
+    let b = match rng.below(8) {
+        0 | 1 => a,
+        2 => span_apart(rng, factors, a),
+        _ => span_within(rng, factors.0, factors.1),
     };
     (a, b, span_within(rng, sum.0, sum.1))
 }
@@ -316,7 +310,7 @@ fn clear_unused(rng: &mut Rng, job: &mut Job) {
     } else {
         job.c = 0;
     }
-    if rng.once_in(12) {
+    if rng.once_in(8) {
         match rng.below(4) {
             0 => job.c |= 1 << 63,
             1 => job.b.low = 1,
@@ -360,7 +354,7 @@ fn below_or_edge(rng: &mut Rng, bound: u8) -> u8 {
 /// The same job at a place just beyond its table.
 fn spoil_place(rng: &mut Rng, job: &mut Job) {
     match rng.below(8) {
-        7 if job.kind == PRODUCT => {
+        6 | 7 if job.kind == PRODUCT => {
             job.i = job.a.width.min(job.p.width).saturating_sub(1);
             job.j = job.p.width.wrapping_sub(job.i);
         }
@@ -425,9 +419,9 @@ fn count_places(image: &[u8]) -> [usize; 4] {
 pub fn damage(rng: &mut Rng, image: &mut Vec<u8>) {
     let counts = count_places(image);
     let length = image.len() as u64;
-    match rng.below(9) {
+    match rng.below(10) {
         0 => image.truncate(rng.below(length) as usize),
-        1 => image.truncate(rng.pick(&counts) + rng.below(6) as usize),
+        1 | 9 => image.truncate(rng.pick(&counts) + rng.pick(&[0, 1, 2, 3, 4, 4, 4, 5])),
         2 => image.truncate(length.saturating_sub(rng.between(1, 23)) as usize),
         3 => image.extend((0..rng.between(1, 23)).map(|place| place as u8)),
         4 | 5 => {

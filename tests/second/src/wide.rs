@@ -21,7 +21,8 @@ fn cared(panel: &Panel, syllable: Syllable) -> u64 {
 
 /// "Read word and COMP over that syllable with don't-care bits taken as 0: the
 /// word's number must be equal to, larger than or smaller than COMP's. A
-/// syllable of don't-cares is satisfied."
+/// syllable of don't-cares is satisfied." 02 c: for at least and at most an
+/// equal number "also satisfies".
 fn satisfied(word: u64, panel: &Panel, syllable: Syllable) -> bool {
     let kept = cared(panel, syllable);
     let ours = syllable.number(word & kept);
@@ -31,6 +32,8 @@ fn satisfied(word: u64, panel: &Panel, syllable: Syllable) -> bool {
         Some(Code::Exact) => ours == theirs,
         Some(Code::Larger) => ours > theirs,
         Some(Code::Smaller) => ours < theirs,
+        Some(Code::AtLeast) => ours >= theirs,
+        Some(Code::AtMost) => ours <= theirs,
         None => false,
     }
 }

@@ -13,6 +13,9 @@ pub struct Writer {
     pub script: Vec<u8>,
     /// The digits of images stored lately.
     pub saved: Vec<String>,
+    /// Which width of a syllable is next to be searched in every way. It begins
+    /// at the seed, so that scripts of seeds in a row go through all of them.
+    pub turn: u64,
 }
 
 /// How many stored images are kept.
@@ -26,6 +29,7 @@ impl Writer {
             left,
             script: Vec::new(),
             saved: Vec::new(),
+            turn: seed,
         }
     }
 

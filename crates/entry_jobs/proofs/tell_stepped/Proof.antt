@@ -17,7 +17,7 @@ returns-2 : tie.Need-returns-2
 returns-2 c =
     let t = c .before .before .before in let l = t .before .before .before in let n = l .before in let q = n .before .before in
     let a = q .before .before .before .args in
-    refused steppedRefusal steppedNumbered Refused (a .stepped) _ _ _ _ (0 ∷ 0 ∷ 0 ∷ 0 ∷ 0 ∷ 0 ∷ 0 ∷ 0 ∷ 0 ∷ 0 ∷ 0 ∷ 0 ∷ []) (a .answer .now) _
+    refused steppedRefusal steppedNumbered Refused (a .stepped) _ _ _ _ (0 ∷ 0 ∷ 0 ∷ 0 ∷ 0 ∷ 0 ∷ 0 ∷ 0 ∷ 0 ∷ 0 ∷ 0 ∷ 0 ∷ 0 ∷ []) (a .answer .now) _
     (q .stepped2 .given .1) refl refl
     (n .number-of .ensures .0) (l .also-of .ensures) (c .number-of2 .ensures) (t .tell .ensures)
 

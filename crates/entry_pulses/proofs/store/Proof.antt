@@ -38,6 +38,14 @@ slice-write-buffer-9 c =
     lt-length-sets (s .args .buffer .now) 0 (f .comp ∷ f .sdr ∷ f .sc1 ∷ f .sc2 ∷ f .mor ∷ f .key ∷ f .care ∷ f .target ∷ []) {k = 8}
     (omega (arith, s .pre))
 
+slice-write-buffer-10 : tie.Need-slice-write-buffer-10
+slice-write-buffer-10 c =
+    let s = c .before .before .before in
+    let f = s .args .from in
+    lt-length-sets (s .args .buffer .now) 0
+    (f .comp ∷ f .sdr ∷ f .sc1 ∷ f .sc2 ∷ f .mor ∷ f .key ∷ f .care ∷ f .target ∷ f .address .0 ∷ []) {k = 9}
+    (omega (arith, s .pre))
+
 returns : tie.Need-returns
 returns c =
     let s = c .before .before .before in over (registers (s .args .from)) (s .args .buffer .now) (s .pre)
@@ -58,5 +66,6 @@ store-spec =
     (λ c. search needs)
     slice-write-buffer-8
     slice-write-buffer-9
+    slice-write-buffer-10
     (λ c. search needs)
     returns)

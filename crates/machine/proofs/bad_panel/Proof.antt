@@ -18,15 +18,19 @@ too-wide-requires-4 c κs = search needs
 too-wide-requires-5 : tie.Need-too-wide-requires-5
 too-wide-requires-5 c κs = search needs
 
+too-wide-requires-6 : tie.Need-too-wide-requires-6
+too-wide-requires-6 c κs = search needs
+
 returns : tie.Need-returns
 unfolding badPanel
 returns c =
     rw (
-      c .before .before .before .before .too-wide .ensures,
-      c .before .before .before .too-wide2 .ensures,
-      c .before .before .too-wide3 .ensures,
-      c .before .too-wide4 .ensures,
-      c .too-wide5 .ensures,
+      c .before .before .before .before .before .too-wide .ensures,
+      c .before .before .before .before .too-wide2 .ensures,
+      c .before .before .before .too-wide3 .ensures,
+      c .before .before .too-wide4 .ensures,
+      c .before .too-wide5 .ensures,
+      c .too-wide6 .ensures,
     )
 
 pub bad-panel-spec : {M : Type 1} → statement M
@@ -38,4 +42,5 @@ bad-panel-spec =
     too-wide-requires-3
     too-wide-requires-4
     too-wide-requires-5
+    too-wide-requires-6
     returns)

@@ -1,6 +1,6 @@
 //! What stands before one command and what comes of it.
 
-use super::reasons::{pulse_numbers, record_reasons, used_reasons};
+use super::reasons::{code_reasons, pulse_numbers, record_reasons, used_reasons};
 use processor::choices::COMMANDS;
 use processor::console::Console;
 use processor::image;
@@ -86,7 +86,10 @@ impl Facts {
             }
         }
         if numbers == [4] {
-            self.only_stray(console);
+            self.only_stray(&way, console, lines);
+        }
+        if numbers.first() == Some(&5) {
+            self.wrong_codes(&way, console);
         }
         self.held_back.push(format!("{way}: {}", raised(lines)));
         self.held_back
@@ -100,6 +103,7 @@ impl Facts {
             self.address_facts(console, lines);
             if lines.search {
                 self.search_facts(console);
+                self.comparing_facts(&way, console);
             }
             if lines.add || lines.multiadd {
                 self.add_facts(console);
@@ -111,14 +115,16 @@ impl Facts {
         }
     }
 
-    /// Which register alone is stray.
-    fn only_stray(&mut self, console: &Console) {
+    /// Which register alone is stray. SC3 is used by a search alone and judged
+    /// in every pulse.
+    fn only_stray(&mut self, way: &str, console: &Console, lines: Lines) {
         let (panel, width) = (&console.panel, console.machine.width);
         let registers = [
             ("comp", panel.comp),
             ("sdr", panel.sdr),
             ("sc1", panel.sc1),
             ("sc2", panel.sc2),
+            ("sc3", panel.sc3),
             ("mor", panel.mor),
         ];
         let stray: Vec<_> = registers
@@ -127,6 +133,18 @@ impl Facts {
             .collect();
         if let [(name, _)] = stray.as_slice() {
             self.found.push(format!("stray: {name} alone"));
+            let search = if lines.search { "with" } else { "without" };
+            self.found
+                .push(format!("{way}: {name} alone stray {search} search"));
+        }
+    }
+
+    /// Why 5 is given: the only reason, or the only two.
+    fn wrong_codes(&mut self, way: &str, console: &Console) {
+        match code_reasons(&console.panel, console.machine.width).as_slice() {
+            [reason] => self.found.push(format!("{way}: 5 for {reason} alone")),
+            [one, other] => self.found.push(format!("{way}: 5 for {one} and {other}")),
+            _ => {}
         }
     }
 

@@ -1,11 +1,15 @@
 //! What the random scripts of the gate have to bring out, and how often at
 //! least, so that no kind of command, refusal or job is there in name only.
 
+use super::comparing::{fate, BESIDE, COMPARING, GAPS, STANDINGS};
 use super::meetings::{ASKED, MEETINGS};
+use super::reasons::CODE_REASONS;
 use processor::panel::LINE_NAMES;
 
-/// Least counts: of what is sought out, and of what comes now and then.
+/// Least counts: of what is sought out, of what comes beside it, and of what
+/// comes now and then.
 pub const OFTEN: u64 = 100;
+const REGULARLY: u64 = 50;
 pub const SOMETIMES: u64 = 5;
 
 /// The numbers that each command can be turned down for.
@@ -28,7 +32,7 @@ const PLAIN: [&str; 13] = [
 ];
 
 /// Other things by name.
-const NAMED: [&str; 40] = [
+const NAMED: [&str; 44] = [
     "address: n-1",
     "address: n",
     "address: 2^64-1",
@@ -49,6 +53,10 @@ const NAMED: [&str; 40] = [
     "search: a syllable of Larger with don't-cares",
     "search: a syllable of Smaller",
     "search: a syllable of Smaller with don't-cares",
+    "search: a syllable of AtLeast",
+    "search: a syllable of AtLeast with don't-cares",
+    "search: a syllable of AtMost",
+    "search: a syllable of AtMost with don't-cares",
     "selected: none",
     "selected: some",
     "selected: all",
@@ -71,7 +79,7 @@ const NAMED: [&str; 40] = [
     "line: with 17 digits",
 ];
 
-const RARER: [&str; 21] = [
+const RARER: [&str; 22] = [
     "line: of 20,000 bytes",
     "line: with a carriage return",
     "line: with a byte above 7F",
@@ -90,6 +98,7 @@ const RARER: [&str; 21] = [
     "stray: sdr alone",
     "stray: sc1 alone",
     "stray: sc2 alone",
+    "stray: sc3 alone",
     "stray: mor alone",
     "numbers 8 and 11 at once",
     "numbers 9 and 10 at once",
@@ -229,6 +238,47 @@ impl Needs {
         }
     }
 
+    /// On both machines: every way to compare over every width of a syllable;
+    /// words at its edge that are taken or left by that syllable alone, with
+    /// and without don't-care bits where they differ; don't-care bits at every
+    /// place among the others; and the ways side by side in one word.
+    fn comparing(&mut self) {
+        for way in ["pulse", "cells"] {
+            for (name, taken) in COMPARING {
+                for width in 1..=64 {
+                    self.add(SOMETIMES, format!("{way}: {name} over {width} bits"));
+                }
+                for (standing, taken) in STANDINGS.iter().zip(taken) {
+                    let (head, fate) = (format!("{way}: {name}: {standing}"), fate(taken));
+                    self.add(OFTEN, format!("{head} {fate}"));
+                    self.add(OFTEN, format!("{head} but for don't-cares {fate}"));
+                }
+                for gap in GAPS {
+                    self.add(OFTEN, format!("{way}: {name} with don't-cares {gap}"));
+                }
+            }
+            for (one, other) in BESIDE {
+                self.add(REGULARLY, format!("{way}: {one} beside {other}"));
+            }
+        }
+    }
+
+    /// On both machines: every reason for number 5 as the only one, and any two
+    /// of them as the only two; and number 4 for SC3 alone, with a search and
+    /// without.
+    fn wrong_codes(&mut self) {
+        for way in ["pulse", "cells"] {
+            for (first, reason) in CODE_REASONS.iter().enumerate() {
+                self.add(REGULARLY, format!("{way}: 5 for {reason} alone"));
+                for other in &CODE_REASONS[first + 1..] {
+                    self.add(SOMETIMES, format!("{way}: 5 for {reason} and {other}"));
+                }
+            }
+            self.add(SOMETIMES, format!("{way}: sc3 alone stray with search"));
+            self.add(SOMETIMES, format!("{way}: sc3 alone stray without search"));
+        }
+    }
+
     /// Every kind of job started, stepped at each phase to and past its end,
     /// run from each phase, told its total and read from an image.
     fn jobs(&mut self) {
@@ -282,6 +332,8 @@ pub fn needed() -> Vec<(String, u64)> {
     needs.commands();
     needs.pulses();
     needs.meetings();
+    needs.comparing();
+    needs.wrong_codes();
     needs.jobs();
     needs.images();
     needs.array();
