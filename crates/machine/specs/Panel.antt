@@ -6,7 +6,7 @@ use Rattle.machine.specs.declared.Panel.{Panel}
 
 -- "The panel holds five N-bit registers (comparand COMP, syllable definition SDR, search commands SC1 and SC2, multioperation MOR), three 8-bit
 -- ones (response key, response care, response target) and an address": numbered from 0 in this order. 02 c: "Add a third search register SC3": the
--- others keep their numbers, and it has the next.
+-- others keep their numbers, and it has the next (house).
 abbrev pub registers : Panel → List ℕ
 registers p = p .comp ∷ p .sdr ∷ p .sc1 ∷ p .sc2 ∷ p .mor ∷ p .key ∷ p .care ∷ p .target ∷ p .address .0 ∷ p .sc3 ∷ []
 
