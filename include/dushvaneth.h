@@ -4,9 +4,9 @@
  * response bits for each word, and its width, the number of bits that each word has. A panel is a buffer of registers, a job
  * a record of bytes. The library keeps nothing, allocates nothing and never stops the program.
  *
- * EVERY CALL TAKES ANY INPUT. Each function returns 0 if it accepted, or else the number of a refusal: always the lowest one
- * that applies (the array's calls have an order of their own, below), and everything that was lent to it then stands as before,
- * but for the answer. A null pointer with length 0 is an empty buffer.
+ * EVERY CALL TAKES ANY INPUT. Each function returns 0 if it accepted, or else the number of a refusal: always the one that comes
+ * first, of all that apply, in the order 1 to 7, 20 to 25, 9, 10, 11 (the array's calls have an order of their own, below), and
+ * everything that was lent to it then stands as before, but for the answer. A null pointer with length 0 is an empty buffer.
  *
  * THE ANSWER. Each function but dushvaneth_load has an answer, its last buffer: the first number is the refusal's number (the one
  * returned), the second what a refusal also answers, the others are the call's values, all 0 on a refusal. A longer buffer is
@@ -32,7 +32,7 @@ typedef uint8_t dushvaneth_response;
 #define DUSHVANETH_MOST_WORDS 1024
 #define DUSHVANETH_MOST_WIDTH 64
 
-/* ---- the numbers that a call returns */
+/* ---- the numbers that a call returns, in the order in which they are checked; there is no 8 */
 
 enum dushvaneth_number {
     /* The call was accepted. */
@@ -53,11 +53,19 @@ enum dushvaneth_number {
     DUSHVANETH_REFUSED_WRONG_LINES = 6,
     /* Read, write or add is raised, and the address is the number of words or more. */
     DUSHVANETH_REFUSED_NO_SUCH_WORD = 7,
-    /* What was asked of a job or a round does not fit: an empty syllable or one outside the word, a result that overlaps a
-     * source, a response bit above 7, X equal to Y or F, a working bit in care, an unknown kind or place, an unused field of a
-     * held job that is not 0; a start while a job is held, a step or a total while none is, a total of a job that is not at its
-     * first place. */
-    DUSHVANETH_REFUSED_UNFIT = 8,
+    /* A syllable that the job uses has width 0. The answer also says the syllable: enum dushvaneth_syllable. */
+    DUSHVANETH_REFUSED_EMPTY_SYLLABLE = 20,
+    /* A syllable that the job uses goes beyond the word's top bit. The answer also says the syllable. */
+    DUSHVANETH_REFUSED_BEYOND_WORD = 21,
+    /* The job's result P overlaps A or B, from which it is worked out. The answer also says the syllable that P overlaps. */
+    DUSHVANETH_REFUSED_OVERLAP = 22,
+    /* X, Y or F, where it is used, is above 7: there is no such response bit. */
+    DUSHVANETH_REFUSED_NO_SUCH_BIT = 23,
+    /* X, where it is used, is the same bit as Y or F, or a working bit that the job uses stands in its care. */
+    DUSHVANETH_REFUSED_BITS_CLASH = 24,
+    /* The job's kind is unknown, and then nothing else of it is judged; or, of a held job, its place is unknown or a field that it does
+     * not use is not 0; or a start while a job is held, a step or a total while none is, a total of a job that is not at its first place. */
+    DUSHVANETH_REFUSED_WRONG_JOB = 25,
     /* The bytes are not the image of a machine. The answer also says the offset of the first field that is cut off or breaks a
      * rule, or of the first byte too many. */
     DUSHVANETH_REFUSED_MALFORMED = 9,
@@ -73,6 +81,9 @@ enum dushvaneth_number {
 /* In every answer: the number returned, and what a refusal also answers (0 for nothing). */
 #define DUSHVANETH_REFUSAL 0
 #define DUSHVANETH_ALSO 1
+
+/* The syllable that 20, 21 and 22 also answer: the first that is wrong, A before B before P; for 22 A or B. */
+enum dushvaneth_syllable { DUSHVANETH_SYLLABLE_A = 1, DUSHVANETH_SYLLABLE_B = 2, DUSHVANETH_SYLLABLE_P = 3 };
 
 /* ---- the panel: a buffer of DUSHVANETH_PANEL numbers, each register at the place of its number */
 
@@ -171,14 +182,14 @@ uint32_t dushvaneth_network(const uint64_t *words, size_t words_length, const du
 enum dushvaneth_verdict { DUSHVANETH_FAULTY = 0, DUSHVANETH_DONE = 1 };
 
 /* Shows the lowest word that has response bit x (0 to 7), or none, which ends the round. Changes nothing. Answers found and its
- * number, as resolution does. Returns 1 to 3, 8, 10. */
+ * number, as resolution does. Returns 1 to 3, 23, 10. */
 uint32_t dushvaneth_show(const uint64_t *words, size_t words_length, const dushvaneth_response *responses,
                          size_t responses_length, uint32_t width, uint8_t x, uint64_t *answer, size_t answer_length);
 
 #define DUSHVANETH_REPLY_ANSWER 2 /* how many numbers the answer has: refusal and also-value */
 
 /* Answers for the word just shown: done clears its bit x, faulty clears its bit x and sets its bit f. Only the word that show
- * would give now is taken, any other is 11. Answers nothing more. Returns 1 to 3, 8, 10, 11. */
+ * would give now is taken, any other is 11. Answers nothing more. Returns 1 to 3, 23, 24, 10, 11. */
 uint32_t dushvaneth_answer(const uint64_t *words, size_t words_length, dushvaneth_response *responses, size_t responses_length,
                            uint32_t width, uint8_t x, uint8_t f, size_t word, uint8_t verdict, uint64_t *answer,
                            size_t answer_length);
@@ -188,7 +199,7 @@ uint32_t dushvaneth_answer(const uint64_t *words, size_t words_length, dushvanet
 #define DUSHVANETH_ROUND_ANSWER 4 /* how many numbers the answer has */
 
 /* A whole round at once: every word with bit x is answered, the lowest first, with the verdict at its number; a word that the
- * list of verdicts doesn't reach is faulty. Answers how many were done and how many faulty. Returns 1 to 3, 8, 10. */
+ * list of verdicts doesn't reach is faulty. Answers how many were done and how many faulty. Returns 1 to 3, 23, 24, 10. */
 uint32_t dushvaneth_round(const uint64_t *words, size_t words_length, dushvaneth_response *responses, size_t responses_length,
                           uint32_t width, uint8_t x, uint8_t f, const uint8_t *verdicts, size_t verdicts_length,
                           uint64_t *answer, size_t answer_length);
@@ -227,7 +238,8 @@ enum dushvaneth_kind {
 #define DUSHVANETH_START_ANSWER 3 /* how many numbers the answer has */
 
 /* Starts the job offered, while `held` (a record, or no bytes; a buffer of its own) says that none is. The record offered becomes the one
- * held, at its first place and with unused fields 0. Answers that it is held. Returns 1 to 3, 8, 10. */
+ * held, at its first place and with unused fields 0. What is wrong with the job offered comes before 25 for one that is held, which is not
+ * judged itself. Answers that it is held. Returns 1 to 3, 20 to 25, 10. */
 uint32_t dushvaneth_start(const uint64_t *words, size_t words_length, const dushvaneth_response *responses,
                           size_t responses_length, uint32_t width, const uint8_t *held, size_t held_length, uint8_t *job,
                           size_t job_length, uint64_t *answer, size_t answer_length);
@@ -240,7 +252,7 @@ uint32_t dushvaneth_start(const uint64_t *words, size_t words_length, const dush
 #define DUSHVANETH_LONGEST_ANSWER DUSHVANETH_STEP_ANSWER                         /* a buffer of so many has room for every call's */
 
 /* Gives the held job's next command and does its pulse on the machine; the record becomes the job's next place, or all zeros after
- * its last pulse. Answers the command, its count and whether a job is still held. Returns 1 to 3, 8, 10. */
+ * its last pulse. Answers the command, its count and whether a job is still held. Returns 1 to 3, 20 to 25, 10. */
 uint32_t dushvaneth_step(uint64_t *words, size_t words_length, dushvaneth_response *responses, size_t responses_length,
                          uint32_t width, uint8_t *job, size_t job_length, uint64_t *answer, size_t answer_length);
 
@@ -248,7 +260,7 @@ uint32_t dushvaneth_step(uint64_t *words, size_t words_length, dushvaneth_respon
 #define DUSHVANETH_TOTAL_ANSWER 3 /* how many numbers the answer has */
 
 /* Says how many pulses the held job takes on this machine, while it stands at its first place. Changes nothing. Answers that number.
- * Returns 1 to 3, 8, 10. */
+ * Returns 1 to 3, 20 to 25, 10. */
 uint32_t dushvaneth_total(const uint64_t *words, size_t words_length, const dushvaneth_response *responses,
                           size_t responses_length, uint32_t width, const uint8_t *job, size_t job_length, uint64_t *answer,
                           size_t answer_length);
@@ -266,7 +278,7 @@ uint32_t dushvaneth_total(const uint64_t *words, size_t words_length, const dush
 #define DUSHVANETH_IMAGE_WRITE_ANSWER 3 /* how many numbers the answer has */
 
 /* Writes the image of the machine and its held job (a record, or no bytes) to the front of `image`; what is behind it stays. Each
- * machine has one image. Answers its size. Returns 1 to 3, 8, 10. */
+ * machine has one image. Answers its size. Returns 1 to 3, 20 to 25, 10. */
 uint32_t dushvaneth_write(const uint64_t *words, size_t words_length, const dushvaneth_response *responses,
                           size_t responses_length, uint32_t width, const uint8_t *job, size_t job_length, uint8_t *image,
                           size_t image_length, uint64_t *answer, size_t answer_length);
@@ -277,8 +289,8 @@ uint32_t dushvaneth_write(const uint64_t *words, size_t words_length, const dush
 #define DUSHVANETH_IMAGE_READ_ANSWER 5 /* how many numbers the answer has */
 
 /* Reads an image back: its words and responses go to the front of the two buffers, which may be longer, and the held job into the record, a
- * buffer of DUSHVANETH_RECORD bytes, all zeros if there is none. Answers width, number of words and whether a job is held. Returns 1 (the
- * record's length), 9, 10. */
+ * buffer of DUSHVANETH_RECORD bytes, all zeros if there is none. A damaged job in it is 9, at the record's place. Answers width, number of
+ * words and whether a job is held. Returns 1 (the record's length), 9, 10. */
 uint32_t dushvaneth_read(const uint8_t *image, size_t image_length, uint64_t *words, size_t words_length,
                          dushvaneth_response *responses, size_t responses_length, uint8_t *job, size_t job_length,
                          uint64_t *answer, size_t answer_length);

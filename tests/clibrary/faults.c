@@ -4,7 +4,6 @@ static int fault;
 
 #define faulty_load dushvaneth_load
 #define faulty_network dushvaneth_network
-#define faulty_total dushvaneth_total
 #define faulty_array_cells dushvaneth_array_cells
 
 static volatile uint8_t touched;
@@ -15,6 +14,16 @@ static void keep(uint8_t *was, const uint8_t *job, size_t j)
     if (j == DUSHVANETH_RECORD) {
         memcpy(was, job, DUSHVANETH_RECORD);
     }
+}
+
+/* Another refusal than the library's is told, where the answer has room. */
+static uint32_t tell_other(uint32_t r, uint64_t also, uint64_t *answer, size_t a, size_t size)
+{
+    if (a >= size) {
+        answer[DUSHVANETH_REFUSAL] = r;
+        answer[DUSHVANETH_ALSO] = also;
+    }
+    return r;
 }
 
 /* 1: an address is off by one. 2: a refusal changes a response. 3: the width's low byte is what is looked at. 15: a one of SC3 over a don't-care
@@ -75,15 +84,16 @@ static uint32_t faulty_show(const uint64_t *words, size_t n, const dushvaneth_re
     return dushvaneth_show(words, n, responses, m, width, x, answer, a);
 }
 
-/* 6: 11 comes before 10. */
+/* 6: 11 comes before 10. 20: 11 comes before 23. */
 static uint32_t faulty_answer(const uint64_t *words, size_t n, dushvaneth_response *responses, size_t m, uint32_t width, uint8_t x,
                               uint8_t f, size_t word, uint8_t verdict, uint64_t *answer, size_t a)
 {
     uint32_t r = dushvaneth_answer(words, n, responses, m, width, x, f, word, verdict, answer, a);
     uint64_t shown[DUSHVANETH_RESOLVED_ANSWER];
-    if (fault == 6 && r == 10 && dushvaneth_show(words, n, responses, m, width, x, shown, DUSHVANETH_RESOLVED_ANSWER) == 0 &&
+    if (((fault == 6 && r == 10) || (fault == 20 && r == 23)) &&
+        dushvaneth_show(words, n, responses, m, width, x, shown, DUSHVANETH_RESOLVED_ANSWER) == 0 &&
         (shown[DUSHVANETH_FOUND] == 0 || shown[DUSHVANETH_FOUND_WORD] != word)) {
-        return 11;
+        return tell_other(11, 0, answer, a, DUSHVANETH_REPLY_ANSWER);
     }
     return r;
 }
@@ -98,19 +108,42 @@ static uint32_t faulty_round(const uint64_t *words, size_t n, dushvaneth_respons
     return dushvaneth_round(words, n, responses, m, width, x, f, verdicts, v, answer, a);
 }
 
-/* 8: what was in the record's unused fields stays. */
+/* A job with each empty syllable made one bit wide: what is wrong with it then is what comes after 20. */
+static void fill_empty(uint8_t *filled, const uint8_t *job)
+{
+    memcpy(filled, job, DUSHVANETH_RECORD);
+    for (int k = DUSHVANETH_JOB_A; k <= DUSHVANETH_JOB_P; k += 2) {
+        filled[k + 1] = job[k + 1] > 0 ? job[k + 1] : 1;
+    }
+}
+
+/* 8: what was in the record's unused fields stays. 18: 21 comes before 20. 23: 8 is returned for 25. 24: 25 for the job that is held comes
+ * before what is wrong with the job offered. */
 static uint32_t faulty_start(const uint64_t *words, size_t n, const dushvaneth_response *responses, size_t m, uint32_t width,
                              const uint8_t *held, size_t h, uint8_t *job, size_t j, uint64_t *answer, size_t a)
 {
-    uint8_t was = j > DUSHVANETH_JOB_B ? job[DUSHVANETH_JOB_B] : 0;
+    uint8_t was = j > DUSHVANETH_JOB_B ? job[DUSHVANETH_JOB_B] : 0, filled[DUSHVANETH_RECORD];
+    uint64_t then[DUSHVANETH_START_ANSWER];
     uint32_t r = dushvaneth_start(words, n, responses, m, width, held, h, job, j, answer, a);
     if (fault == 8 && r == 0) {
         job[DUSHVANETH_JOB_B] = was;
     }
+    if (fault == 18 && r == 20) {
+        fill_empty(filled, job);
+        if (dushvaneth_start(words, n, responses, m, width, held, h, filled, j, then, DUSHVANETH_START_ANSWER) == 21) {
+            return tell_other(21, then[DUSHVANETH_ALSO], answer, a, DUSHVANETH_START_ANSWER);
+        }
+    }
+    if (fault == 23 && r == 25) {
+        return tell_other(8, 0, answer, a, DUSHVANETH_START_ANSWER);
+    }
+    if (fault == 24 && r >= 20 && r <= 24 && h > 0) {
+        return tell_other(25, 0, answer, a, DUSHVANETH_START_ANSWER);
+    }
     return r;
 }
 
-/* 9: the record isn't written. 10: the count is that of the words. 17: SC3 isn't told. */
+/* 9: the record isn't written. 10: the count is that of the words. 17: SC3 isn't told. 22: the syllable isn't told. */
 static uint32_t faulty_step(uint64_t *words, size_t n, dushvaneth_response *responses, size_t m, uint32_t width, uint8_t *job, size_t j,
                             uint64_t *answer, size_t a)
 {
@@ -128,16 +161,30 @@ static uint32_t faulty_step(uint64_t *words, size_t n, dushvaneth_response *resp
     if (fault == 17 && r == 0) {
         answer[DUSHVANETH_STEP_PANEL + DUSHVANETH_SC3] = sc3;
     }
+    if (fault == 22 && r >= 20 && r <= 22) {
+        return tell_other(r, 0, answer, a, DUSHVANETH_STEP_ANSWER);
+    }
     return r;
 }
 
-/* 11: a byte behind the image is cleared. */
+/* 19: 10 comes before 20. */
+static uint32_t faulty_total(const uint64_t *words, size_t n, const dushvaneth_response *responses, size_t m, uint32_t width,
+                             const uint8_t *job, size_t j, uint64_t *answer, size_t a)
+{
+    uint32_t r = dushvaneth_total(words, n, responses, m, width, job, j, answer, a);
+    return fault == 19 && r == 20 && a < DUSHVANETH_TOTAL_ANSWER ? 10 : r;
+}
+
+/* 11: a byte behind the image is cleared. 21: 22 names the result, not the source. */
 static uint32_t faulty_write(const uint64_t *words, size_t n, const dushvaneth_response *responses, size_t m, uint32_t width,
                              const uint8_t *job, size_t j, uint8_t *image, size_t i, uint64_t *answer, size_t a)
 {
     uint32_t r = dushvaneth_write(words, n, responses, m, width, job, j, image, i, answer, a);
     if (fault == 11 && r == 0 && answer[DUSHVANETH_IMAGE_SIZE] < i) {
         image[answer[DUSHVANETH_IMAGE_SIZE]] = 0;
+    }
+    if (fault == 21 && r == 22) {
+        return tell_other(r, DUSHVANETH_SYLLABLE_P, answer, a, DUSHVANETH_IMAGE_WRITE_ANSWER);
     }
     return r;
 }
@@ -171,4 +218,4 @@ static uint32_t faulty_array_wide(uint64_t *ones, size_t n, uint64_t *xs, size_t
     return r;
 }
 
-enum { faults = 17 };
+enum { faults = 24 };

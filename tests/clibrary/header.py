@@ -72,7 +72,7 @@ def signatures(header):
 
 def rows(section):
     found = []
-    for number, name, words, also in re.findall(r"^\| (\d+) \| `(\w+)` \| (.*?) \| *(.*?) *\|$", section, re.M):
+    for number, name, words, also in re.findall(r"^\| (\d+) \| `([A-Z]\w+)` \| (.*?) \| *(.*?) *\|$", section, re.M):
         found.append((int(number), name, words.replace("`", ""), also.replace("`", "")))
     return found
 
@@ -92,13 +92,16 @@ def refusals(header):
             hold(f"{number}: the comment is\n  {comment}\nthe table\n  {words}", comment.startswith(words) and also in comment)
         else:
             hold(f"{number} of the array: its comment hasn't\n  {words}", words in of_array)
+    numbers = {row[0] for row in told + rows(array)}
+    hold(f"the header has the numbers {sorted(constants)}", set(constants) == numbers)
+    return numbers
 
 
 def returned(comment):
-    """The numbers behind 'Returns'; 13 and more are no refusals' numbers."""
+    """The numbers behind 'Returns'; 32 and more are no refusals' numbers."""
     numbers = set()
     for low, high in re.findall(r"\b(\d+)(?: to (\d+))?\b", comment.partition("Returns")[2]):
-        numbers |= {n for n in range(int(low), int(high or low) + 1) if 0 < n < 13}
+        numbers |= {n for n in range(int(low), int(high or low) + 1) if 0 < n < 32}
     return numbers
 
 
@@ -109,9 +112,10 @@ def main():
             print(f'{{"{name.partition("_")[2]}", {sum(1 << n for n in returned(comment) | {0})}u}},')
         return 0
     declarations = signatures(header)
-    refusals(header)
+    known = refusals(header)
     for name, (_, _, comment) in declarations.items():
-        hold(f"{name}: its comment says no number", bool(returned(comment)))
+        numbers = returned(comment)
+        hold(f"{name}: its comment says the numbers {sorted(numbers)}", bool(numbers) and numbers <= known)
     print(f"{counts[True]} passed, {counts[False]} failed")
     return counts[False]
 

@@ -79,6 +79,7 @@ static void begin(int which)
     now.which = which;
     now.buffers = now.numbers = 0;
     now.number[0] = 0;
+    now.spoilt = now.no_room = false;
 }
 
 /* Words, responses and width; what may change goes home. */
@@ -140,10 +141,20 @@ static size_t lowest(void)
     return i;
 }
 
+/* Not one of the eight response bits, now and then; then the call is refused. */
+static uint8_t perhaps_no_bit(uint8_t bit) { return once_in(12) ? (uint8_t)(8 + below(248)) : bit; }
+
+/* The round's X and F, now and then the same, which is refused too. */
+static void give_bits(void)
+{
+    give(perhaps_no_bit(once_in(12) ? host.f : host.x));
+    give(perhaps_no_bit(host.f));
+}
+
 static void show(void)
 {
     machine(at_show, false, false);
-    give(host.x);
+    give(perhaps_no_bit(host.x));
     if (made(false)) {
         ended[ROUND] += answered(DUSHVANETH_FOUND) == 0;
     }
@@ -152,8 +163,7 @@ static void show(void)
 static void answer(void)
 {
     machine(at_answer, false, true);
-    give(host.x);
-    give(host.f);
+    give_bits();
     give(once_in(5) ? below(host.n + 1) : lowest());
     give(below(3));
     made(false);
@@ -166,8 +176,7 @@ static void whole_round(void)
         verdicts[i] = (uint8_t)(below(9) == 0 ? any() : below(2));
     }
     machine(at_round, false, true);
-    give(host.x);
-    give(host.f);
+    give_bits();
     lend(1, verdicts, below(host.n + 3), NULL);
     made(false);
 }
@@ -213,20 +222,7 @@ static void total(void)
 {
     machine(at_total, false, false);
     lend(1, host.job, host.held || once_in(4) ? DUSHVANETH_RECORD : 0, NULL);
-    made(false);
-}
-
-static void start(void)
-{
-    uint8_t job[DUSHVANETH_RECORD];
-    new_job(job);
-    machine(at_start, false, false);
-    lend(1, host.job, host.held ? DUSHVANETH_RECORD : 0, NULL);
-    lend(1, job, DUSHVANETH_RECORD, host.job);
-    host.held = made(false) || host.held;
-    if (host.held && once_in(2)) {
-        total();
-    }
+    made_with_job(2, false);
 }
 
 static void step(void)
@@ -234,7 +230,7 @@ static void step(void)
     machine(at_step, true, true);
     lend(1, host.job, host.held || once_in(4) ? DUSHVANETH_RECORD : 0, host.job);
     uint8_t kind = host.job[DUSHVANETH_JOB_KIND];
-    if (made(once_in(2))) {
+    if (made_with_job(2, once_in(2))) {
         host.held = answered(DUSHVANETH_STEP_HELD) != 0;
         ended[kind - DUSHVANETH_GREATEST] += !host.held;
     }
@@ -247,7 +243,21 @@ static void write_image(void)
     lend(1, host.job, host.held ? DUSHVANETH_RECORD : 0, NULL);
     memset(host.image, (int)below(256), size + 9);
     lend(1, host.image, size + below(9), host.image);
-    host.image_length = made(false) ? (size_t)answered(DUSHVANETH_IMAGE_SIZE) : 0;
+    host.image_length = made_with_job(2, false) ? (size_t)answered(DUSHVANETH_IMAGE_SIZE) : 0;
+}
+
+static void start(void)
+{
+    uint8_t job[DUSHVANETH_RECORD];
+    new_job(job);
+    machine(at_start, false, false);
+    lend(1, host.job, host.held ? DUSHVANETH_RECORD : 0, NULL);
+    lend(1, job, DUSHVANETH_RECORD, host.job);
+    host.held = made_with_job(3, false) || host.held;
+    if (host.held) { /* by chance alone these two come up mostly while none is, and then judge no job */
+        total();
+        write_image();
+    }
 }
 
 /* Hits the counts, the width and the job more than the words. */

@@ -7,6 +7,7 @@
  *     random faults SEEDS         built with -DFAULTS: each fault of faults.c in turn, which must be found in so many seeds */
 #include "trial.h"
 #include "searches.h"
+#include "unfit.h"
 #include "host.h"
 #ifdef FAULTS
 #include <sys/wait.h>
@@ -55,7 +56,7 @@ static unsigned long report(unsigned long *failed)
     unsigned long passed = 0, calls = 0;
     for (int i = 0; i < functions; i++) {
         printf("%-12s", told[i].name);
-        for (int r = 0; r < 13; r++) {
+        for (int r = 0; r < NUMBERS; r++) {
             calls += counts[i][r];
             if ((told[i].numbers >> r & 1) == 1) {
                 printf(" %d:", r);
@@ -66,6 +67,10 @@ static unsigned long report(unsigned long *failed)
     }
     passed += report_named(ends, ended, ENDS, failed);
     passed += report_named(searched_as, searched, SEARCHED, failed);
+    for (size_t k = 0; k < sizeof judging / sizeof *judging; k++) {
+        printf("%-12s ", told[judging[k]].name);
+        passed += report_named(named_as, named[judging[k]], NAMED, failed);
+    }
     printf("%lu calls\n", calls);
     return passed + calls / 100;
 }

@@ -1,6 +1,6 @@
 /* A host's whole story on the header alone: households are loaded and searched, jobs run with a stop and a resume from the image at each
  * pulse, and a round hands the due ones out, with a faulty one and a stop at each place. What must come out was worked out by hand
- * from document 01 and request c of document 02. The last line is 'N passed, M failed'. */
+ * from document 01 and requests c and d of document 02. The last line is 'N passed, M failed'. */
 #include <dushvaneth.h>
 #include <stdio.h>
 #include <string.h>
@@ -148,11 +148,9 @@ static void ask_with_equal(void)
 
 /* ---- jobs, with a stop after each pulse */
 
-/* A job of that kind on the due households, A and P as given; how many pulses it took. */
-static int run(uint8_t kind, uint8_t a, uint8_t p, uint64_t c, uint64_t total)
+/* Fills the record of a job of that kind on the due households, A and P four bits wide from the bits given. */
+static void fill(uint8_t kind, uint8_t a, uint8_t p, uint64_t c)
 {
-    uint8_t another[DUSHVANETH_RECORD];
-    int pulses = 0;
     memset(job, 0, sizeof job);
     job[DUSHVANETH_JOB_KIND] = kind;
     job[DUSHVANETH_JOB_KEY] = job[DUSHVANETH_JOB_CARE] = 1 << DUE;
@@ -161,12 +159,20 @@ static int run(uint8_t kind, uint8_t a, uint8_t p, uint64_t c, uint64_t total)
     dushvaneth_set_syllable(job, DUSHVANETH_JOB_A, a, 4);
     dushvaneth_set_syllable(job, DUSHVANETH_JOB_P, p, 4);
     dushvaneth_set_c(job, c);
-    CHECK(dushvaneth_step(MACHINE, NULL, 0, ANSWER), DUSHVANETH_REFUSED_UNFIT);
+}
+
+/* Such a job; how many pulses it took. */
+static int run(uint8_t kind, uint8_t a, uint8_t p, uint64_t c, uint64_t total)
+{
+    uint8_t another[DUSHVANETH_RECORD];
+    int pulses = 0;
+    fill(kind, a, p, c);
+    CHECK(dushvaneth_step(MACHINE, NULL, 0, ANSWER), DUSHVANETH_REFUSED_WRONG_JOB);
     CHECK(dushvaneth_start(MACHINE, NULL, 0, job, sizeof job, ANSWER), 0);
     CHECK(answer[DUSHVANETH_START_HELD], 1);
     held = dushvaneth_record_length(answer[DUSHVANETH_START_HELD]);
     memcpy(another, job, sizeof another);
-    CHECK(dushvaneth_start(MACHINE, job, held, another, sizeof another, ANSWER), DUSHVANETH_REFUSED_UNFIT);
+    CHECK(dushvaneth_start(MACHINE, job, held, another, sizeof another, ANSWER), DUSHVANETH_REFUSED_WRONG_JOB);
     CHECK(dushvaneth_total(MACHINE, job, held, ANSWER), 0);
     CHECK(answer[DUSHVANETH_TOTAL_PULSES], total);
     while (held > 0 && pulses < 100) {
@@ -184,6 +190,18 @@ static int run(uint8_t kind, uint8_t a, uint8_t p, uint64_t c, uint64_t total)
     return pulses;
 }
 
+/* Visits are A, bits 11 to 8, and points the result P. One bit too high P has bits 16 to 13, beyond the word; one bit too low it has bits 14
+ * to 11, over A. */
+static void misplaced(void)
+{
+    fill(DUSHVANETH_SCALED_ADD, 8, 13, 3);
+    CHECK(dushvaneth_start(MACHINE, NULL, 0, job, sizeof job, ANSWER), DUSHVANETH_REFUSED_BEYOND_WORD);
+    CHECK(answer[DUSHVANETH_ALSO], DUSHVANETH_SYLLABLE_P);
+    fill(DUSHVANETH_SCALED_ADD, 8, 11, 3);
+    CHECK(dushvaneth_start(MACHINE, NULL, 0, job, sizeof job, ANSWER), DUSHVANETH_REFUSED_OVERLAP);
+    CHECK(answer[DUSHVANETH_ALSO], DUSHVANETH_SYLLABLE_A);
+}
+
 static void jobs(void)
 {
     /* 1 + 3*2, 5 + 3*1, 3 + 3*0 and 9 + 3*6 = 27, modulo 16 */
@@ -191,6 +209,7 @@ static void jobs(void)
     static const dushvaneth_response due[HOUSEHOLDS] = {1, 0, 1, 0, 1, 1};
     /* of 7, 8, 3 and 11 points 11 is greatest; its last trial left Y too */
     static const dushvaneth_response best[HOUSEHOLDS] = {1, 0, 1, 0, 1, 1 + (1 << X) + (1 << Y)};
+    misplaced();
     CHECK(run(DUSHVANETH_SCALED_ADD, 8, 12, 3, 8), 8);
     check_machine(__LINE__, after, due);
     /* 1 + 4, and three ones in 1011 */

@@ -45,7 +45,10 @@ enum { CALLS = 40, LEAST = 5, MOST = 1100, REGION = 16384, BUFFERS = 5 };
 /* The status of a run that found a difference; a sanitizer's own is another. */
 enum { FOUND = 3 };
 
-static unsigned long counts[functions][13];
+/* One more than the greatest number that is returned. */
+enum { NUMBERS = DUSHVANETH_REFUSED_WRONG_JOB + 1 };
+
+static unsigned long counts[functions][NUMBERS];
 static unsigned long seed;
 static int call;
 static bool loud;
@@ -80,6 +83,8 @@ static struct {
     int which, buffers, numbers;
     struct lent lent[BUFFERS];
     uint64_t number[5];
+    bool spoilt;  /* something isn't the host's own, so that no outcome goes home */
+    bool no_room; /* the answer's buffer is to be too short */
     uint32_t returned;
 } now;
 
@@ -168,6 +173,19 @@ static void outside(int signal)
     _exit(FOUND);
 }
 
+/* What a refusal may also answer: 3 a word, 9 a place, 20 and 21 always a syllable, 22 one that P overlaps, all others nothing. */
+static bool may_answer(uint32_t r, uint64_t also)
+{
+    switch (r) {
+    case DUSHVANETH_REFUSED_WORD_TOO_WIDE:
+    case DUSHVANETH_REFUSED_MALFORMED: return true;
+    case DUSHVANETH_REFUSED_EMPTY_SYLLABLE:
+    case DUSHVANETH_REFUSED_BEYOND_WORD: return also >= DUSHVANETH_SYLLABLE_A && also <= DUSHVANETH_SYLLABLE_P;
+    case DUSHVANETH_REFUSED_OVERLAP: return also == DUSHVANETH_SYLLABLE_A || also == DUSHVANETH_SYLLABLE_B;
+    default: return also == 0;
+    }
+}
+
 /* The header's words on the answer: the number returned, then all 0 on a refusal; too short, it stays. */
 static void hold_answer(uint32_t r, const struct lent *b, const uint64_t *answer)
 {
@@ -181,7 +199,7 @@ static void hold_answer(uint32_t r, const struct lent *b, const uint64_t *answer
         }
         return;
     }
-    if (answer[DUSHVANETH_REFUSAL] != r || (answer[DUSHVANETH_ALSO] != 0 && r != 3 && r != 9)) {
+    if (answer[DUSHVANETH_REFUSAL] != r || !may_answer(r, answer[DUSHVANETH_ALSO])) {
         wrong("the answer's head; returned, told", (long)r, (long)answer[DUSHVANETH_REFUSAL]);
     }
     for (size_t i = 2; i < b->length; i++) {
@@ -198,7 +216,7 @@ static void hold(uint32_t r, uint32_t second)
     if (r != second) {
         wrong("returned, second's", (long)r, (long)second);
     }
-    if (r > 12 || (told[now.which].numbers >> r & 1) == 0) {
+    if (r >= NUMBERS || (told[now.which].numbers >> r & 1) == 0) {
         wrong("the header doesn't name what was returned; number, numbers named", (long)r, (long)told[now.which].numbers);
     }
     counts[now.which][r]++;
@@ -292,11 +310,11 @@ static bool made(bool sound)
         for (size_t i = 0; i < 32; i++) {
             blank[i] = any();
         }
-        lend(8, blank, answers[now.which] + below(3), NULL);
+        lend(8, blank, now.no_room ? below(answers[now.which]) : answers[now.which] + below(3), NULL);
     }
-    bool spoilt = !sound && once_in(3);
-    for (uint64_t times = spoilt ? 1 + below(2) : 0; times > 0; times--) {
+    for (uint64_t times = !sound && once_in(3) ? 1 + below(2) : 0; times > 0; times--) {
         spoil();
+        now.spoilt = true;
     }
     for (int k = 0; k < now.buffers; k++) {
         struct lent *b = &now.lent[k];
@@ -319,12 +337,12 @@ static bool made(bool sound)
     }
     hold(r, answer_of(1));
     call++;
-    for (int k = 0; k < now.buffers && r == 0 && !spoilt; k++) {
+    for (int k = 0; k < now.buffers && r == 0 && !now.spoilt; k++) {
         if (now.lent[k].home != NULL && now.lent[k].length > 0) {
             memcpy(now.lent[k].home, at(0, k), now.lent[k].unit * now.lent[k].length);
         }
     }
-    return r == 0 && !spoilt;
+    return r == 0 && !now.spoilt;
 }
 
 static uint64_t answered(int place)

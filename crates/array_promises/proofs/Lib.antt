@@ -6,5 +6,6 @@ pub mod Demand2
 pub mod Exact
 pub mod ExactCalls
 pub mod Figures
+pub mod Retired
 pub mod Settled
 pub mod TakesAny

@@ -16,7 +16,7 @@ use Rattle.machine.specs.declared.Check.the-variants.{Passed, Refused}
 use Rattle.machine.specs.Machine.{Machine, responseBits}
 use Rattle.machine.specs.Panel.{panelOf}
 use Rattle.machine.specs.Search.{oneCode, oneSetting, comparedOnly}
-use Rattle.machine.specs.Refusals.{tooWide, badPanel, badCodes, badAddress, refuse, pulseCheck, numberOf}
+use Rattle.machine.specs.Refusals.{tooWide, badPanel, badCodes, badAddress, refuse, pulseCheck, numberOf, turn}
 use Rattle.machine.proofs.Refusals.{else-passed, not-refused, or-left, or-right}
 use Rattle.entry_forms.specs.Numbers.{panelSize, overflows, panelCheck, panelIn, lowerOf}
 
@@ -39,12 +39,12 @@ pub check-in : (m : Machine) (rs : List ℕ) (l : Lines) → pulseCheck m (panel
 unfolding pulseCheck badPanel badCodes badAddress oneCode oneSetting comparedOnly
 check-in m rs l = refl
 
--- ---- of two numbers the lower one: both arms of the code's test
+-- ---- of two numbers the one whose turn comes first: both arms of the code's test
 
-pub lower-yes : (own why : Refusal) (other : Check) (n k : ℕ) → other ≡ Refused why → n ≡ numberOf why → k ≡ numberOf own → n < k
+pub lower-yes : (own why : Refusal) (other : Check) (n k : ℕ) → other ≡ Refused why → n ≡ turn (numberOf why) → k ≡ turn (numberOf own) → n < k
     → why ≡ lowerOf own other
 lower-yes own why other n k e en ek h = rw (e, ← en, ← ek, lt-ltb n k h)
 
-pub lower-no : (own why : Refusal) (other : Check) (n k : ℕ) → other ≡ Refused why → n ≡ numberOf why → k ≡ numberOf own → k ≤ n
+pub lower-no : (own why : Refusal) (other : Check) (n k : ℕ) → other ≡ Refused why → n ≡ turn (numberOf why) → k ≡ turn (numberOf own) → k ≤ n
     → own ≡ lowerOf own other
 lower-no own why other n k e en ek h = rw (e, ← en, ← ek, le-ltb n k h)

@@ -14,15 +14,15 @@ use Rattle.machine.specs.declared.Check.{Check}
 use Rattle.machine.specs.declared.Check.the-variants as check
 use Rattle.machine.specs.Machine.{responseBits}
 use Rattle.machine.specs.Panel.{panelOf}
-use Rattle.machine.specs.Refusals.{tooWide, _else_, refuse, numberOf}
+use Rattle.machine.specs.Refusals.{tooWide, _else_, refuse, numberOf, turn}
 use Rattle.resolver.specs.Answers.{Told}
 
--- ---- several things wrong at once: "Checked in number order", so the lowest number is given
+-- ---- several things wrong at once: "Checked in number order", with 20 to 25 in the place of 8: so the number whose turn comes first is given
 
--- of a refusal and another check, the refusal with the lower number
+-- of a refusal and another check, the refusal whose number's turn comes first
 abbrev pub lowerOf : Refusal → Check → Refusal
 lowerOf r check.Passed = r
-lowerOf r (check.Refused s) = pick (ltb (numberOf s) (numberOf r)) s r
+lowerOf r (check.Refused s) = pick (ltb (turn (numberOf s)) (turn (numberOf r))) s r
 
 abbrev pub lower : Check → Check → Check
 lower check.Passed c = c

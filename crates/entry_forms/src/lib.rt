@@ -27,7 +27,7 @@ pub fn lower_of(own: Refusal, other: Check) -> Refusal
     match other {
         Check::Passed => own,
         Check::Refused(why) => {
-            if machine::number_of(why) < machine::number_of(own) {
+            if machine::turn_of(why) < machine::turn_of(own) {
                 why
             } else {
                 own

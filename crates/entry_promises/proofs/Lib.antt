@@ -2,5 +2,6 @@
 pub mod Entered
 pub mod Kept
 pub mod Lowest
+pub mod Retired
 pub mod Settled
 pub mod TakesAny

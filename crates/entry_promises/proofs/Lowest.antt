@@ -1,5 +1,5 @@
--- Demand 1, of the entry points: "always the lowest one that applies" of what the library itself refuses and of the call's own part of document
--- 01's table. The library's own conditions are the house's (docs/DECISIONS.md, 'The library for C').
+-- Demand 1, of the entry points: always the one whose turn comes first, of what the library itself refuses and of the call's own part of document
+-- 01's table, with 20 to 25 of document 02, request d, in the place of 8. The library's own conditions are the house's (docs/DECISIONS.md, 'The library for C').
 use Prim.Native.Nat.{ℕ}
 use mathlib.Core.Path.{_≡_, refl}
 use mathlib.Core.Bool.{Bool, true, false, not, _||_}
@@ -12,7 +12,7 @@ use Rattle.machine.specs.declared.Refusal.{Refusal}
 use Rattle.machine.specs.declared.Refusal.the-variants.{Size, PanelTooWide, WrongLines, NoRoom}
 use Rattle.machine.specs.declared.Check.{Check}
 use Rattle.machine.specs.declared.Check.the-variants.{Passed, Refused}
-use Rattle.machine.specs.Refusals.{_else_, refuse, tells, numberOf}
+use Rattle.machine.specs.Refusals.{_else_, refuse, tells, numberOf, turn}
 use Rattle.machine.proofs.Refusals.{some-number}
 use Rattle.image_layout.specs.Sizes.{recordSize}
 use Rattle.panel.specs.Numbered.{takes}
@@ -20,10 +20,11 @@ use Rattle.entry_forms.specs.Numbers.{lowerOf, lower, panelSize, overflows, pan
 use Rattle.entry_forms.specs.Records.{recordCheck, heldCheck}
 use Rattle.promises.proofs.Answered.{passes}
 use Rattle.promises.proofs.Demand1.{Entry, entry, first, given}
+use Rattle.promises.proofs.InOrder.{ordered}
 
--- of two numbers with what they also answer, 0 for none, the lower one
+-- of two numbers with what they also answer, 0 for none, the one whose turn comes first
 abbrev pub lowest : ℕ × ℕ → ℕ × ℕ → ℕ × ℕ
-lowest s t = pick (eqb (s .0) 0) t (pick (eqb (t .0) 0) s (pick (ltb (t .0) (s .0)) t s))
+lowest s t = pick (eqb (s .0) 0) t (pick (eqb (t .0) 0) s (pick (ltb (turn (t .0)) (turn (s .0))) t s))
 
 -- ---- the library's own conditions, each table in the order of its numbers
 
@@ -55,6 +56,12 @@ heldOwnTable job size room = entry 1 (not (eqb (length job) 0 || eqb (length job
 abbrev pub startOwnTable : List ℕ → List ℕ → ℕ → ℕ → List Entry
 startOwnTable held job size room =
     entry 1 (not (eqb (length held) 0 || eqb (length held) recordSize)) ∷ recordTable job size room
+
+-- each is in the order of the numbers' turns
+pub own-ordered : (rs : List ℕ) (lines k v : ℕ) (held job : List ℕ) (size room : ℕ)
+    → (ordered (pulseOwnTable rs lines size room) ≡ true) × (ordered (loadOwnTable rs k v) ≡ true) × (ordered (roomTable size room) ≡ true)
+    × (ordered (recordTable job size room) ≡ true) × (ordered (heldOwnTable held size room) ≡ true) × (ordered (startOwnTable held job size room) ≡ true)
+own-ordered rs lines k v held job size room = (refl, refl, refl, refl, refl, refl)
 
 -- ---- each is given exactly then
 
@@ -128,7 +135,7 @@ start-own held job size room = go (not (eqb (length held) 0 || eqb (length held)
     go false false true = refl
     go false false false = refl
 
--- ---- the lower of the two
+-- ---- the first of the two
 
 not-zero : (r : Refusal) → eqb (tells r .0) 0 ≡ false
 not-zero r = go (eqb (tells r .0) 0) refl
@@ -140,7 +147,7 @@ not-zero r = go (eqb (tells r .0) 0) refl
 pub lower-given : (own call : Check) → given (lower own call) ≡ lowest (given own) (given call)
 lower-given Passed call = refl
 lower-given (Refused r) Passed = rw (not-zero r)
-lower-given (Refused r) (Refused s) = rw (not-zero r, not-zero s) (go (ltb (numberOf s) (numberOf r)))
+lower-given (Refused r) (Refused s) = rw (not-zero r, not-zero s) (go (ltb (turn (numberOf s)) (turn (numberOf r))))
   where
     go : (b : Bool) → tells (pick b s r) ≡ pick b (tells s) (tells r)
     go true = refl

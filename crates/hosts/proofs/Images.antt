@@ -38,7 +38,7 @@ first-of-sets xs l n e h =
 
 -- ---- storing
 
--- 8 of what is held, as writing judges it
+-- 20 to 25 of what is held, as writing judges it
 abbrev pub jobCheck : ℕ → Held → Check
 jobCheck n h = jobsCheck n (heldJobs h)
 

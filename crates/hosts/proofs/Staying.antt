@@ -1,5 +1,5 @@
 -- A held job that is in order stays so after each step, whatever the count: so what stands after any accepted calls can be stored.
--- Document 01, number 8: "a job kind or place not in the table; .. after the start, an unused field not 0".
+-- Document 02, request d, 25: "unknown kind or place, unused field not 0".
 use Prim.Native.Nat.{ℕ, zero, suc, _+_, _<_}
 use mathlib.Core.Path.{_≡_, refl, sym, ap, _∙_}
 use mathlib.Core.Bool.{Bool, true, false, not, _&&_, _||_}

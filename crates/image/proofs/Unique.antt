@@ -70,7 +70,7 @@ passing : (c : Check) → passes c ≡ true → c ≡ Passed
 passing Passed h = refl
 passing (Refused r) h = cc
 
--- what is left is the bytes of these jobs, which pass number 8
+-- what is left is the bytes of these jobs, which pass 20 to 25
 record JobsLeft (w : ℕ) (s : List ℕ) (os : List Job) : Type 0 where
   bytes-of : s ≡ items jobBytes os
   fit : jobsCheck w os ≡ Passed

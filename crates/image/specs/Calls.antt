@@ -1,5 +1,6 @@
 -- Document 01, 'The image': what writing and reading answer, and what they leave in what is lent.
--- "writing an image for 1 to 3, 8 and 10; reading one for 9 and 10"
+-- "writing an image for 1 to 3, 8 and 10; reading one for 9 and 10"; for 8 document 02, request d, has 20 to 25, and "a damaged job in an image
+-- stays 9".
 use mathlib.Core.Path.{_≡_}
 use Prim.Native.Nat.{ℕ}
 use mathlib.Core.Bool.{_||_}
@@ -27,7 +28,7 @@ use Rattle.image_layout.specs.Reading.{wordsIn, scanned, stateIn}
 
 -- ---- writing
 
--- 8: each held job as after its start; none is fine
+-- 20 to 25: each held job as after its start; none is fine
 abbrev pub jobsCheck : ℕ → List Job → Check
 jobsCheck n [] = check.Passed
 jobsCheck n (o ∷ os) = heldCheck n o else jobsCheck n os

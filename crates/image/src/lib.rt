@@ -1,5 +1,5 @@
 // The image: a machine and its held job as bytes, written and read back.
-// Document 01: 'The image', and numbers 8, 9 and 10.
+// Document 01: 'The image', and numbers 9 and 10; document 02, request d: 20 to 25 of the job that is written.
 pub mod reading;
 pub mod writing;
 

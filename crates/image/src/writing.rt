@@ -1,4 +1,4 @@
-// Writing: "checked .. for 1 to 3, 8 and 10"; it changes "only the image's own bytes".
+// Writing: "checked .. for 1 to 3, 8 and 10", 8 as document 02, request d, splits it; it changes "only the image's own bytes".
 // Document 01, 'The image' and 'Numbers given when a call is turned down'.
 use crate::Wrote;
 use image_stores::put_held;
@@ -15,7 +15,7 @@ ghost use Rattle.image_layout.specs.Format.{heldJobs};
 ghost use Rattle.image.specs.Calls.{jobsCheck, writeCheck, writeOf, written};
 ghost use Rattle.jobs.specs.Runs.{state};
 
-// 8: each held job as after its start; none is fine.
+// 20 to 25: each held job as after its start; none is fine.
 fn check_jobs(width: u32, held: Held) -> Check
     ensures { λ r. ⌜ r ≡ jobsCheck width (heldJobs held) ⌝ }
 {
@@ -48,10 +48,9 @@ pub fn check_write(
         Check::Refused(why) => Check::Refused(why),
         Check::Passed => {
             let size = image_layout::image_size(words.len(), count_jobs(held));
-            machine::in_order(
-                check_jobs(width, held),
-                machine::refuse(Refusal::NoRoom, room < size),
-            )
+            let fit = check_jobs(width, held);
+            let holds = machine::refuse(Refusal::NoRoom, room < size);
+            machine::in_order(fit, holds)
         }
     }
 }

@@ -1,5 +1,5 @@
-// The places of a job: which are in the table, the first, and the one after a pulse; and number 8 of a held job.
-// Document 01: 'Jobs', 'The image' (phase, i and j) and number 8. The definitions are in `job_plans`.
+// The places of a job: which are in the table, the first, and the one after a pulse; and 20 to 25 of a held job.
+// Document 01: 'Jobs', 'The image' (phase, i and j); document 02, request d. The definitions are in `job_plans`.
 use job_plans::Held;
 use job_plans::Job;
 use job_plans::Span;
@@ -243,13 +243,13 @@ pub fn next_of(o: Job, matched: usize) -> Held
     }
 }
 
-// ---- number 8 of a held job
+// ---- 20 to 25 of a held job
 
-// "a job .. place not in the table"
+// 25: "unknown .. place"
 fn check_place(o: Job) -> Check
     ensures { λ r. ⌜ r ≡ places.placeCheck o ⌝ }
 {
-    refuse(Refusal::Unfit, !in_table(o))
+    refuse(Refusal::WrongJob, !in_table(o))
 }
 
 // "after the start": used fields as at the start, the others 0, a place of the table.
@@ -262,11 +262,11 @@ pub fn check_held(width: u32, o: Job) -> Check
     )
 }
 
-// "a step while none is"
+// 25: "step while none is"
 pub fn none_held() -> Refusal
     ensures { λ r. ⌜ r ≡ places.noneHeld ⌝ }
 {
-    Refusal::Unfit
+    Refusal::WrongJob
 }
 
 fn check_step_held(width: u32, held: Held) -> Check

@@ -1,4 +1,4 @@
--- What it means that number 8 is not given: kind by kind, and the bounds that hold for every kind, as unused fields are 0.
+-- What it means that none of 20 to 25 is given: kind by kind, and the bounds that hold for every kind, as unused fields are 0.
 use Prim.Native.Nat.{ℕ, zero, _+_, _≤_, _<_}
 use mathlib.Core.Path.{_≡_, refl, subst}
 use mathlib.Core.Bool.{Bool, true, false, not, _&&_, _||_}
@@ -6,6 +6,8 @@ use native.Mathlib.Omega.{arith}
 use lib.Dec.{ltb, leb, eqb}
 use borrow.Author.Tests.{ltb-true, ltb-false, leb-false, eqb-true, eqb-false, not-false}
 use Rattle.machine.specs.declared.ResponseBit.{ResponseBit}
+use Rattle.machine.specs.declared.Syllable.{Syllable}
+use Rattle.machine.specs.declared.Syllable.the-variants.{A, B, P}
 use Rattle.machine.specs.declared.Check.the-variants.{Passed}
 use Rattle.machine.specs.Machine.{responseBits}
 use Rattle.machine.specs.Refusals.{bitCheck, apartCheck, careCheck, inCare}
@@ -27,8 +29,8 @@ pub record Whole (n : ℕ) (s : Span) : Type 0 where
   pub some : 0 < s .width
   pub fits : s .low .0 + s .width ≤ n
 
-pub whole : (n : ℕ) (s : Span) → emptyCheck s ≡ Passed → beyondCheck n s ≡ Passed → Whole n s
-whole n s h g = record {
+pub whole : (n : ℕ) (name : Syllable) (s : Span) → emptyCheck name s ≡ Passed → beyondCheck n name s ≡ Passed → Whole n s
+whole n name s h g = record {
   some = omega (arith, eqb-false (s .width) 0 (not-refused _ (eqb (s .width) 0) h));
   fits = ltb-false n (s .low .0 + s .width) (not-refused _ (ltb n (s .low .0 + s .width)) g);
 }
@@ -49,8 +51,8 @@ pub record ExtremeFields (n : ℕ) (o : Job) : Type 0 where
 pub extreme-fields : (n : ℕ) (o : Job) → extremeCheck n o ≡ Passed → ExtremeFields n o
 unfolding extremeCheck
 extreme-fields n o h =
-    let a = else-passed (emptyCheck (o .a)) _ h in
-    let b = else-passed (beyondCheck n (o .a)) _ (a .1) in
+    let a = else-passed (emptyCheck A (o .a)) _ h in
+    let b = else-passed (beyondCheck n A (o .a)) _ (a .1) in
     let x = else-passed (bitCheck (o .x)) _ (b .1) in
     let y = else-passed (bitCheck (o .y)) _ (x .1) in
     let d = else-passed (apartCheck (o .x) (o .y)) _ (y .1) in
@@ -59,7 +61,7 @@ extreme-fields n o h =
       x-bit = working (o .care) (o .x) (x .0) (c .0);
       y-bit = working (o .care) (o .y) (y .0) (c .1);
       apart = eqb-false (o .x .0) (o .y .0) (not-refused _ (eqb (o .x .0) (o .y .0)) (d .0));
-      a = whole n (o .a) (a .0) (b .0);
+      a = whole n A (o .a) (a .0) (b .0);
     }
 
 pub record ScaledFields (n : ℕ) (o : Job) : Type 0 where
@@ -71,16 +73,16 @@ pub record ScaledFields (n : ℕ) (o : Job) : Type 0 where
 pub scaled-fields : (n : ℕ) (o : Job) → scaledAddCheck n o ≡ Passed → ScaledFields n o
 unfolding scaledAddCheck
 scaled-fields n o h =
-    let a = else-passed (emptyCheck (o .a)) _ h in
-    let p = else-passed (emptyCheck (o .p)) _ (a .1) in
-    let b = else-passed (beyondCheck n (o .a)) _ (p .1) in
-    let q = else-passed (beyondCheck n (o .p)) _ (b .1) in
-    let d = else-passed (overlapCheck (o .p) (o .a)) _ (q .1) in
+    let a = else-passed (emptyCheck A (o .a)) _ h in
+    let p = else-passed (emptyCheck P (o .p)) _ (a .1) in
+    let b = else-passed (beyondCheck n A (o .a)) _ (p .1) in
+    let q = else-passed (beyondCheck n P (o .p)) _ (b .1) in
+    let d = else-passed (overlapCheck (o .p) A (o .a)) _ (q .1) in
     let y = else-passed (bitCheck (o .y)) (careCheck (o .care) (o .y)) (d .1) in
     record {
       y-bit = working (o .care) (o .y) (y .0) (y .1);
-      a = whole n (o .a) (a .0) (b .0);
-      p = whole n (o .p) (p .0) (q .0);
+      a = whole n A (o .a) (a .0) (b .0);
+      p = whole n P (o .p) (p .0) (q .0);
       apart = not-refused _ (overlaps (o .p) (o .a)) (d .0);
     }
 
@@ -92,23 +94,23 @@ pub record ProductFields (n : ℕ) (o : Job) : Type 0 where
 pub product-fields : (n : ℕ) (o : Job) → productCheck n o ≡ Passed → ProductFields n o
 unfolding productCheck
 product-fields n o h =
-    let a = else-passed (emptyCheck (o .a)) _ h in
-    let b = else-passed (emptyCheck (o .b)) _ (a .1) in
-    let p = else-passed (emptyCheck (o .p)) _ (b .1) in
-    let c = else-passed (beyondCheck n (o .a)) _ (p .1) in
-    let d = else-passed (beyondCheck n (o .b)) _ (c .1) in
-    let q = else-passed (beyondCheck n (o .p)) _ (d .1) in
-    let e = else-passed (overlapCheck (o .p) (o .a)) _ (q .1) in
-    let f = else-passed (overlapCheck (o .p) (o .b)) _ (e .1) in
+    let a = else-passed (emptyCheck A (o .a)) _ h in
+    let b = else-passed (emptyCheck B (o .b)) _ (a .1) in
+    let p = else-passed (emptyCheck P (o .p)) _ (b .1) in
+    let c = else-passed (beyondCheck n A (o .a)) _ (p .1) in
+    let d = else-passed (beyondCheck n B (o .b)) _ (c .1) in
+    let q = else-passed (beyondCheck n P (o .p)) _ (d .1) in
+    let e = else-passed (overlapCheck (o .p) A (o .a)) _ (q .1) in
+    let f = else-passed (overlapCheck (o .p) B (o .b)) _ (e .1) in
     let y = else-passed (bitCheck (o .y)) (careCheck (o .care) (o .y)) (f .1) in
     record {
       both = record {
         y-bit = working (o .care) (o .y) (y .0) (y .1);
-        a = whole n (o .a) (a .0) (c .0);
-        p = whole n (o .p) (p .0) (q .0);
+        a = whole n A (o .a) (a .0) (c .0);
+        p = whole n P (o .p) (p .0) (q .0);
         apart = not-refused _ (overlaps (o .p) (o .a)) (e .0);
       };
-      b = whole n (o .b) (b .0) (d .0);
+      b = whole n B (o .b) (b .0) (d .0);
       apart = not-refused _ (overlaps (o .p) (o .b)) (f .0);
     }
 

@@ -1,12 +1,14 @@
--- Document 01, number 8: the fields that a job uses, and those that it does not.
--- "Of a job 8 judges used fields, its place only after the start, and then too that others are 0."
+-- Document 02, request d: 20 to 25 of the fields that a job uses, and of those that it does not. They stand where document 01 has 8, of which it
+-- says: "Of a job 8 judges used fields, its place only after the start, and then too that others are 0."
 use Prim.Native.Nat.{ℕ, zero, suc, _+_}
 use mathlib.Core.Bool.{Bool, true, false, not, _&&_}
 use lib.Dec.{ltb, eqb}
 use Rattle.laws.specs.Bits.{pick}
 use Rattle.machine.specs.declared.Check.{Check}
 use Rattle.machine.specs.declared.Check.the-variants.{Passed}
-use Rattle.machine.specs.declared.Refusal.the-variants.{Unfit}
+use Rattle.machine.specs.declared.Syllable.{Syllable}
+use Rattle.machine.specs.declared.Syllable.the-variants.{A, B, P}
+use Rattle.machine.specs.declared.Refusal.the-variants.{EmptySyllable, BeyondWord, Overlap, WrongJob}
 use Rattle.machine.specs.declared.ResponseBit.{ResponseBit}
 use Rattle.machine.specs.Refusals.{_else_, refuse, bitCheck, apartCheck, careCheck}
 use Rattle.job_plans.specs.declared.Span.{Span}
@@ -34,31 +36,32 @@ byKind unknown e s p u = u
 
 -- ---- used fields
 
--- "a syllable of width 0"
-abbrev pub emptyCheck : Span → Check
-emptyCheck s = refuse Unfit (eqb (s .width) 0)
+-- 20: "syllable empty"; "also name the syllable"
+abbrev pub emptyCheck : Syllable → Span → Check
+emptyCheck name s = refuse (EmptySyllable name) (eqb (s .width) 0)
 
--- "or beyond N"
-abbrev pub beyondCheck : ℕ → Span → Check
-beyondCheck n s = refuse Unfit (ltb n (s .low .0 + s .width))
+-- 21: "syllable beyond the word"
+abbrev pub beyondCheck : ℕ → Syllable → Span → Check
+beyondCheck n name s = refuse (BeyondWord name) (ltb n (s .low .0 + s .width))
 
--- "P overlapping A or B"
+-- 22: "result overlaps a source"
 abbrev pub overlaps : Span → Span → Bool
 overlaps s t = ltb (s .low .0) (t .low .0 + t .width) && ltb (t .low .0) (s .low .0 + s .width)
 
-abbrev pub overlapCheck : Span → Span → Check
-overlapCheck p s = refuse Unfit (overlaps p s)
+-- "for 22 the source"
+abbrev pub overlapCheck : Span → Syllable → Span → Check
+overlapCheck p name s = refuse (Overlap name) (overlaps p s)
 
 -- asked only if the field is used
 abbrev pub ifUsed : Bool → Check → Check
 ifUsed used c = pick used c Passed
 
 -- Every job uses A and Y; x, b and p say whether it uses X, B and P.
--- What is asked of every syllable is asked of A, then B, then P, before the next thing is asked (house); working bits last.
+-- "lowest first", and of one number "A before B before P"; 23 and 24 of X and then Y
 abbrev pub fieldsCheck : Bool → Bool → Bool → ℕ → Job → Check
-fieldsCheck x b p n o = emptyCheck (o .a) else ifUsed b (emptyCheck (o .b)) else ifUsed p (emptyCheck (o .p))
-    else beyondCheck n (o .a) else ifUsed b (beyondCheck n (o .b)) else ifUsed p (beyondCheck n (o .p))
-    else ifUsed p (overlapCheck (o .p) (o .a)) else ifUsed b (overlapCheck (o .p) (o .b))
+fieldsCheck x b p n o = emptyCheck A (o .a) else ifUsed b (emptyCheck B (o .b)) else ifUsed p (emptyCheck P (o .p))
+    else beyondCheck n A (o .a) else ifUsed b (beyondCheck n B (o .b)) else ifUsed p (beyondCheck n P (o .p))
+    else ifUsed p (overlapCheck (o .p) A (o .a)) else ifUsed b (overlapCheck (o .p) B (o .b))
     else ifUsed x (bitCheck (o .x)) else bitCheck (o .y)
     else ifUsed x (apartCheck (o .x) (o .y)) else ifUsed x (careCheck (o .care) (o .x)) else careCheck (o .care) (o .y)
 
@@ -74,9 +77,9 @@ scaledAddCheck n o = fieldsCheck false false true n o
 unfoldable pub productCheck : ℕ → Job → Check
 productCheck n o = fieldsCheck false true true n o
 
--- "a job kind .. not in the table"
+-- 25: "unknown kind"; "an unknown kind gets only 25"
 abbrev pub usedCheckFor : Kind → ℕ → Job → Check
-usedCheckFor k n o = byKind k (extremeCheck n o) (scaledAddCheck n o) (productCheck n o) (refuse Unfit true)
+usedCheckFor k n o = byKind k (extremeCheck n o) (scaledAddCheck n o) (productCheck n o) (refuse WrongJob true)
 
 unfoldable pub usedCheck : ℕ → Job → Check
 usedCheck n o = usedCheckFor (kindOf (o .kind)) n o
@@ -94,6 +97,6 @@ unusedZeroFor k o = byKind k (isZero (o .b) && isZero (o .p) && eqb (o .j) 0 && 
 unfoldable pub unusedZero : Job → Bool
 unusedZero o = unusedZeroFor (kindOf (o .kind)) o
 
--- "after the start, an unused field not 0"
+-- 25: "unused field not 0"
 abbrev pub unusedCheck : Job → Check
-unusedCheck o = refuse Unfit (not (unusedZero o))
+unusedCheck o = refuse WrongJob (not (unusedZero o))

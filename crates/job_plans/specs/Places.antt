@@ -6,7 +6,7 @@ use lib.Dec.{ltb, eqb}
 use Rattle.laws.specs.Bits.{pick}
 use Rattle.machine.specs.declared.Check.{Check}
 use Rattle.machine.specs.declared.Refusal.{Refusal}
-use Rattle.machine.specs.declared.Refusal.the-variants.{Unfit}
+use Rattle.machine.specs.declared.Refusal.the-variants.{WrongJob}
 use Rattle.machine.specs.declared.ResponseBit.{ResponseBit}
 use Rattle.machine.specs.Machine.{Machine}
 use Rattle.machine.specs.Refusals.{_else_, refuse, machineCheck}
@@ -39,19 +39,19 @@ inTableFor k o = byKind k (extremePlace o) (scaledPlace o) (productPlace o) fals
 unfoldable pub inTable : Job → Bool
 inTable o = inTableFor (kindOf (o .kind)) o
 
--- "a job .. place not in the table"
+-- 25: "unknown .. place"
 abbrev pub placeCheck : Job → Check
-placeCheck o = refuse Unfit (not (inTable o))
+placeCheck o = refuse WrongJob (not (inTable o))
 
--- ---- number 8 of a held job
+-- ---- 20 to 25 of a held job
 
 -- after the start: used fields as at the start, the others 0, a place of the table
 unfoldable pub heldCheck : ℕ → Job → Check
 heldCheck n o = usedCheck n o else unusedCheck o else placeCheck o
 
--- "a step while none is"
+-- 25: "step while none is"
 abbrev pub noneHeld : Refusal
-noneHeld = Unfit
+noneHeld = WrongJob
 
 abbrev pub stepHeldCheck : ℕ → Held → Check
 stepHeldCheck n Nothing = refuse noneHeld true

@@ -1,8 +1,9 @@
-// Document 01, number 8: the fields that a job uses, and those that it does not.
+// Document 02, request d: 20 to 25 of the fields that a job uses, and of those that it does not.
 use crate::Job;
 use crate::Span;
 use machine::Check;
 use machine::Refusal;
+use machine::Syllable;
 use machine::check_apart;
 use machine::check_bit;
 use machine::check_care;
@@ -13,21 +14,24 @@ ghost use Rattle.job_plans.specs.Fields.{emptyCheck, beyondCheck, overla
 
 // ---- used fields
 
-// "a syllable of width 0"
-fn check_empty(s: Span) -> Check
-    ensures { λ r. ⌜ r ≡ emptyCheck s ⌝ }
+// 20: "syllable empty"
+fn check_empty(name: Syllable, s: Span) -> Check
+    ensures { λ r. ⌜ r ≡ emptyCheck name s ⌝ }
 {
-    refuse(Refusal::Unfit, s.width == 0)
+    refuse(Refusal::EmptySyllable(name), s.width == 0)
 }
 
-// "or beyond N"
-fn check_beyond(n: u32, s: Span) -> Check
-    ensures { λ r. ⌜ r ≡ beyondCheck n s ⌝ }
+// 21: "syllable beyond the word"
+fn check_beyond(n: u32, name: Syllable, s: Span) -> Check
+    ensures { λ r. ⌜ r ≡ beyondCheck n name s ⌝ }
 {
-    refuse(Refusal::Unfit, n < s.low.0 as u32 + s.width as u32)
+    refuse(
+        Refusal::BeyondWord(name),
+        n < s.low.0 as u32 + s.width as u32,
+    )
 }
 
-// "P overlapping A or B"
+// 22: "result overlaps a source"
 fn overlap(s: Span, t: Span) -> bool
     ensures { λ r. ⌜ r ≡ overlaps s t ⌝ }
 {
@@ -35,85 +39,56 @@ fn overlap(s: Span, t: Span) -> bool
         & ((t.low.0 as u32) < s.low.0 as u32 + s.width as u32)
 }
 
-fn check_overlap(p: Span, s: Span) -> Check
-    ensures { λ r. ⌜ r ≡ overlapCheck p s ⌝ }
+fn check_overlap(p: Span, source: Syllable, s: Span) -> Check
+    ensures { λ r. ⌜ r ≡ overlapCheck p source s ⌝ }
 {
-    refuse(Refusal::Unfit, overlap(p, s))
+    refuse(Refusal::Overlap(source), overlap(p, s))
 }
 
+// Each number once, "lowest first", and of one number "A before B before P".
 fn check_extreme(n: u32, o: Job) -> Check
     ensures { λ r. ⌜ r ≡ extremeCheck n o ⌝ }
 {
-    in_order(
-        check_empty(o.a),
-        in_order(
-            check_beyond(n, o.a),
-            in_order(
-                check_bit(o.x),
-                in_order(
-                    check_bit(o.y),
-                    in_order(
-                        check_apart(o.x, o.y),
-                        in_order(check_care(o.care, o.x), check_care(o.care, o.y)),
-                    ),
-                ),
-            ),
-        ),
-    )
+    let empty = check_empty(Syllable::A, o.a);
+    let beyond = check_beyond(n, Syllable::A, o.a);
+    let bits = in_order(check_bit(o.x), check_bit(o.y));
+    let cares = in_order(check_care(o.care, o.x), check_care(o.care, o.y));
+    let clash = in_order(check_apart(o.x, o.y), cares);
+    in_order(empty, in_order(beyond, in_order(bits, clash)))
 }
 
 fn check_scaled_add(n: u32, o: Job) -> Check
     ensures { λ r. ⌜ r ≡ scaledAddCheck n o ⌝ }
 {
-    in_order(
-        check_empty(o.a),
-        in_order(
-            check_empty(o.p),
-            in_order(
-                check_beyond(n, o.a),
-                in_order(
-                    check_beyond(n, o.p),
-                    in_order(
-                        check_overlap(o.p, o.a),
-                        in_order(check_bit(o.y), check_care(o.care, o.y)),
-                    ),
-                ),
-            ),
-        ),
-    )
+    let empty = in_order(check_empty(Syllable::A, o.a), check_empty(Syllable::P, o.p));
+    let beyond = in_order(
+        check_beyond(n, Syllable::A, o.a),
+        check_beyond(n, Syllable::P, o.p),
+    );
+    let overlap = check_overlap(o.p, Syllable::A, o.a);
+    let bit = in_order(check_bit(o.y), check_care(o.care, o.y));
+    in_order(empty, in_order(beyond, in_order(overlap, bit)))
 }
 
 fn check_product(n: u32, o: Job) -> Check
     ensures { λ r. ⌜ r ≡ productCheck n o ⌝ }
 {
-    in_order(
-        check_empty(o.a),
-        in_order(
-            check_empty(o.b),
-            in_order(
-                check_empty(o.p),
-                in_order(
-                    check_beyond(n, o.a),
-                    in_order(
-                        check_beyond(n, o.b),
-                        in_order(
-                            check_beyond(n, o.p),
-                            in_order(
-                                check_overlap(o.p, o.a),
-                                in_order(
-                                    check_overlap(o.p, o.b),
-                                    in_order(check_bit(o.y), check_care(o.care, o.y)),
-                                ),
-                            ),
-                        ),
-                    ),
-                ),
-            ),
-        ),
-    )
+    let empties = in_order(check_empty(Syllable::B, o.b), check_empty(Syllable::P, o.p));
+    let empty = in_order(check_empty(Syllable::A, o.a), empties);
+    let beyonds = in_order(
+        check_beyond(n, Syllable::B, o.b),
+        check_beyond(n, Syllable::P, o.p),
+    );
+    let beyond = in_order(check_beyond(n, Syllable::A, o.a), beyonds);
+    let overlap = in_order(
+        check_overlap(o.p, Syllable::A, o.a),
+        check_overlap(o.p, Syllable::B, o.b),
+    );
+    let bit = in_order(check_bit(o.y), check_care(o.care, o.y));
+    in_order(empty, in_order(beyond, in_order(overlap, bit)))
 }
 
-// "a job kind .. not in the table"
+// "an unknown kind gets only 25"
 pub fn check_used(n: u32, o: Job) -> Check
     ensures { λ r. ⌜ r ≡ usedCheck n o ⌝ }
 {
@@ -123,7 +98,7 @@ pub fn check_used(n: u32, o: Job) -> Check
         2 => check_extreme(n, o),
         3 => check_scaled_add(n, o),
         4 => check_product(n, o),
-        _ => refuse(Refusal::Unfit, true),
+        _ => refuse(Refusal::WrongJob, true),
     }
 }
 
@@ -169,9 +144,9 @@ fn unused_zero(o: Job) -> bool
     }
 }
 
-// "after the start, an unused field not 0"
+// 25: "unused field not 0"
 pub fn check_unused(o: Job) -> Check
     ensures { λ r. ⌜ r ≡ unusedCheck o ⌝ }
 {
-    refuse(Refusal::Unfit, !unused_zero(o))
+    refuse(Refusal::WrongJob, !unused_zero(o))
 }

@@ -1,5 +1,5 @@
 // What a job is: its types, the definitions of its fields, places and commands, and the checks of its fields.
-// Document 01: 'Jobs', 'The image' (phase, i and j) and number 8.
+// Document 01: 'Jobs', 'The image' (phase, i and j); document 02, request d: 20 to 25.
 pub mod fields;
 
 use machine::BitSlice;

@@ -5,7 +5,7 @@ use mathlib.Core.List.{List, [], _∷_}
 use lib.Dec.{ltb}
 use Rattle.laws.specs.Bits.{bit, number, pick, digit}
 use Rattle.machine.specs.declared.Check.{Check}
-use Rattle.machine.specs.declared.Refusal.the-variants.{Unfit}
+use Rattle.machine.specs.declared.Refusal.the-variants.{WrongJob}
 use Rattle.machine.specs.Machine.{Machine, selected}
 use Rattle.machine.specs.Refusals.{_else_, refuse, answerBy, numberOf, alsoAnswers}
 use Rattle.job_plans.specs.declared.Span.{Span}
@@ -64,14 +64,14 @@ pulsesFor unknown m o = 0
 unfoldable pub pulses : Machine → Job → ℕ
 pulses m o = pulsesFor (kindOf (o .kind)) m o
 
--- ---- the call, which 01 does not name (house): refused as a step is, and with 8 if the place is not the first
+-- ---- the call, which 01 does not name (house): refused as a step is, and with 25 if the place is not the first
 
 abbrev pub isFirst : Held → Bool
 isFirst Nothing = false
 isFirst (Holds o) = atFirst o
 
 abbrev pub firstCheck : Held → Check
-firstCheck h = refuse Unfit (not (isFirst h))
+firstCheck h = refuse WrongJob (not (isFirst h))
 
 unfoldable pub totalCheck : Machine → Held → Check
 totalCheck m h = stepCheck m h else firstCheck h

@@ -153,7 +153,7 @@ fn is_first(held: Held) -> bool
 fn check_first(held: Held) -> Check
     ensures { λ r. ⌜ r ≡ firstCheck held ⌝ }
 {
-    refuse(Refusal::Unfit, !is_first(held))
+    refuse(Refusal::WrongJob, !is_first(held))
 }
 
 pub fn check_total(words: &[u64], responses: &[Response], width: u32, held: Held) -> Check
@@ -162,7 +162,7 @@ pub fn check_total(words: &[u64], responses: &[Response], width: u32, held: Held
     in_order(check_step(words, responses, width, held), check_first(held))
 }
 
-// Refused as a step is, and with 8 where the job does not stand at its first place.
+// Refused as a step is, and with 25 where the job does not stand at its first place.
 pub fn total(words: &[u64], responses: &[Response], width: u32, held: Held) -> Total
     ensures { λ r. ⌜ r ≡ totalOf (machine width (now (words .entry)) (now (responses .entry))) held ⌝ }
 {

@@ -1,4 +1,4 @@
--- The command of a job that number 8 does not turn down is never refused as a pulse, on a machine that 1 to 3 do not.
+-- The command of a job that 20 to 25 do not turn down is never refused as a pulse, on a machine that 1 to 3 do not.
 use Prim.Native.Nat.{ℕ, _+_, _-_, _*_, _%_, _^_, _≤_, _<_}
 use mathlib.Core.Path.{_≡_, refl}
 use mathlib.Core.Bool.{Bool, true, false}

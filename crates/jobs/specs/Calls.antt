@@ -1,10 +1,10 @@
 -- Document 01, 'Jobs': what start and step answer, and the machine after a step.
--- "job start, job step and show for 1 to 3 and 8"
+-- "job start, job step and show for 1 to 3 and 8", for which document 02, request d, has 20 to 25.
 use Prim.Native.Nat.{ℕ}
 use mathlib.Core.Bool.{Bool, true, false}
 use mathlib.Core.List.{[]}
 use Rattle.machine.specs.declared.Check.{Check}
-use Rattle.machine.specs.declared.Refusal.the-variants.{Unfit}
+use Rattle.machine.specs.declared.Refusal.the-variants.{WrongJob}
 use Rattle.machine.specs.Machine.{Machine}
 use Rattle.machine.specs.Pulse.{countOf, pulsed}
 use Rattle.machine.specs.Panel.{panelOf}
@@ -28,11 +28,11 @@ abbrev pub isHeld : Held → Bool
 isHeld Nothing = false
 isHeld (Holds o) = true
 
--- "a start while a job is held"
+-- 25: "start while one is held"
 abbrev pub freeCheck : Held → Check
-freeCheck h = refuse Unfit (isHeld h)
+freeCheck h = refuse WrongJob (isHeld h)
 
--- a start judges the used fields of the job offered
+-- 02 d: "a start judges the job offered", its used fields
 unfoldable pub startCheck : Machine → Held → Job → Check
 startCheck m h o = machineCheck m else usedCheck (m .width) o else freeCheck h
 

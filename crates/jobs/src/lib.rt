@@ -1,6 +1,6 @@
 // Jobs: the calls start and step, and the command that a step gives. What a job is stands in `job_plans`, its places in
 // `job_places` and its number of pulses in `job_tally`, whose call is passed on here.
-// Document 01: 'Jobs' and number 8.
+// Document 01: 'Jobs'; document 02, request d: 20 to 25.
 mod commands;
 pub mod totals;
 
@@ -42,7 +42,7 @@ pub enum Stepped {
 
 // ---- start: "Starting a job sets its first place, and its unused fields to 0."
 
-// "a start while a job is held"
+// 25: "start while one is held"
 fn is_held(held: Held) -> bool
     ensures { λ r. ⌜ r ≡ isHeld held ⌝ }
 {
@@ -55,7 +55,7 @@ fn is_held(held: Held) -> bool
 fn check_free(held: Held) -> Check
     ensures { λ r. ⌜ r ≡ freeCheck held ⌝ }
 {
-    refuse(Refusal::Unfit, is_held(held))
+    refuse(Refusal::WrongJob, is_held(held))
 }
 
 pub fn check_start(
@@ -67,10 +67,10 @@ pub fn check_start(
 ) -> Check
     ensures { λ r. ⌜ r ≡ startCheck (machine width (now (words .entry)) (now (responses .entry))) held offered ⌝ }
 {
-    in_order(
-        machine::check_machine(words, responses, width),
-        in_order(check_used(width, offered), check_free(held)),
-    )
+    let sound = machine::check_machine(words, responses, width);
+    let fit = check_used(width, offered);
+    let free = check_free(held);
+    in_order(sound, in_order(fit, free))
 }
 
 pub fn start(words: &[u64], responses: &[Response], width: u32, held: Held, offered: Job) -> Started

@@ -2,15 +2,18 @@
 use Prim.Native.Nat.{ℕ, _<_, _≤_}
 use mathlib.Core.Path.{_≡_, refl}
 use mathlib.Core.List.{List, [], _++_, append-assoc}
+use lib.Dec.{leb}
+use mathlib.Core.Bool.{true, false, _&&_}
 use borrow.Author.Tests.{lt-ltb, le-ltb, ne-eqb}
 use lib.ListN.{length, getD, replicate}
 use Rattle.machine.specs.declared.Refusal.{Refusal}
 use Rattle.machine.specs.Refusals.{numberOf, alsoAnswers}
 use Rattle.image.specs.declared.Read.{Read}
 use Rattle.image.specs.Calls.{readOf, wordsRead, responsesRead}
+use Rattle.text.specs.Ascii.{ascii}
 use Rattle.output.specs.Puts.{Puts}
 use Rattle.output.proofs.Puts.{puts₂, puts₃}
-use Rattle.listing.specs.Lists.{named, refusalText, alsoText, entryText, wordText, foundText, listText}
+use Rattle.listing.specs.Lists.{named, refusalText, syllableText, alsoText, entryText, wordText, foundText, listText}
 
 -- ---- a refusal
 
@@ -20,8 +23,21 @@ three-more why k also e f h = rw (← e, ← f, h) refl
 pub nine-more : (why : Refusal) (k also : ℕ) → k ≡ numberOf why → also ≡ alsoAnswers why → k ≡ 9 → alsoText why ≡ named " at " also
 nine-more why k also e f h = rw (← e, ← f, h) refl
 
-pub no-more : (why : Refusal) (k : ℕ) → k ≡ numberOf why → (k ≡ 3 → ⊥) → (k ≡ 9 → ⊥) → alsoText why ≡ []
-no-more why k e f g = rw (← e, ne-eqb k 3 f, ne-eqb k 9 g) refl
+pub letter-a : (v : ℕ) → v ≡ 1 → syllableText v ≡ ascii " A"
+letter-a v e = rw e refl
+
+pub letter-b : (v : ℕ) → v ≡ 2 → syllableText v ≡ ascii " B"
+letter-b v e = rw e refl
+
+pub letter-p : (v : ℕ) → (v ≡ 1 → ⊥) → (v ≡ 2 → ⊥) → syllableText v ≡ ascii " P"
+letter-p v f g = rw (ne-eqb v 1 f, ne-eqb v 2 g) refl
+
+pub syllable-more : (why : Refusal) (k also : ℕ) → k ≡ numberOf why → also ≡ alsoAnswers why → (k ≡ 3 → ⊥) → (k ≡ 9 → ⊥) → (leb 20 k && leb k 22) ≡ true
+    → alsoText why ≡ syllableText also
+syllable-more why k also e a f g h = rw (← e, ← a, ne-eqb k 3 f, ne-eqb k 9 g, h) refl
+
+pub no-more : (why : Refusal) (k : ℕ) → k ≡ numberOf why → (k ≡ 3 → ⊥) → (k ≡ 9 → ⊥) → (leb 20 k && leb k 22) ≡ false → alsoText why ≡ []
+no-more why k e f g h = rw (← e, ne-eqb k 3 f, ne-eqb k 9 g, h) refl
 
 pub refused : {o₁ o₂ : List ℕ} {n₁ n₂ : ℕ} (why : Refusal) (k : ℕ) (also out : List ℕ) → k ≡ numberOf why → alsoText why ≡ also →
     Puts (named "refused " k) 0 out o₁ n₁ → Puts also n₁ o₁ o₂ n₂ → Puts (refusalText why) 0 out o₂ n₂

@@ -1,10 +1,10 @@
 -- How long the parts of an answer can be, and a refusal's.
 use Prim.Native.Nat.{ℕ, zero, suc, _+_, _/_, _%_, _≤_}
 use Prim.Native.String.{String}
-use mathlib.Core.Bool.{Bool, true, false}
+use mathlib.Core.Bool.{Bool, true, false, _&&_}
 use mathlib.Core.List.{List, [], _∷_, _++_}
 use native.Mathlib.Omega.{arith}
-use lib.Dec.{ltb, eqb}
+use lib.Dec.{ltb, leb, eqb}
 use lib.ListN.{length, length-append}
 use Rattle.laws.specs.Bits.{pick}
 use Rattle.machine.specs.declared.Refusal.{Refusal}
@@ -12,7 +12,7 @@ use Rattle.machine.specs.Refusals.{numberOf, alsoAnswers}
 use Rattle.text.specs.Ascii.{ascii}
 use Rattle.output.specs.Digits.{hexDigits, decimalDigits}
 use Rattle.output.specs.Digits.{pair}
-use Rattle.listing.specs.Lists.{named, named16, namedResponse, alsoText, refusalText}
+use Rattle.listing.specs.Lists.{named, named16, namedResponse, syllableText, alsoText, refusalText}
 use Rattle.output.proofs.Puts.{length-hex}
 
 -- ---- texts of at most so many bytes
@@ -60,10 +60,14 @@ byte name x = both (text name) (two x)
 
 -- ---- a refusal
 
+syllable : (value : ℕ) → Within (syllableText value) 26
+syllable value = within 26 (omega arith) (either (eqb value 1) (text " A") (either (eqb value 2) (text " B") (text " P")))
+
 pub also : (why : Refusal) → Within (alsoText why) 26
 also why =
     either (eqb (numberOf why) 3) (number " word " (alsoAnswers why))
-    (either {b = []} (eqb (numberOf why) 9) (within 26 (omega arith) (number " at " (alsoAnswers why))) none)
+    (either (eqb (numberOf why) 9) (within 26 (omega arith) (number " at " (alsoAnswers why)))
+    (either {b = []} (leb 20 (numberOf why) && leb (numberOf why) 22) (syllable (alsoAnswers why)) none))
 
 pub refused : (why : Refusal) → Within (refusalText why) 54
 refused why = let x = both (number "refused " (numberOf why)) (also why) in x

@@ -3,7 +3,7 @@ use Prim.Native.Nat.{ℕ, zero, suc}
 use Prim.Native.String.{String}
 use mathlib.Core.Bool.{_&&_}
 use mathlib.Core.List.{List, [], _++_}
-use lib.Dec.{ltb, eqb}
+use lib.Dec.{ltb, leb, eqb}
 use lib.ListN.{length, getD, replicate}
 use Rattle.laws.specs.Bits.{pick}
 use Rattle.machine.specs.declared.Refusal.{Refusal}
@@ -31,12 +31,18 @@ responseText x = pair x
 abbrev pub namedResponse : String → ℕ → List ℕ
 namedResponse name x = ascii name ++ responseText x
 
--- ---- refusals: "`refused K`, for number 3 `refused 3 word I`, for number 9 `refused 9 at I`"
+-- ---- refusals: "`refused K`, for number 3 `refused 3 word I`, for number 9 `refused 9 at I`", and since request d "20, 21 and 22 name their
+-- syllable"
+
+-- a syllable's letter, by the value that names it
+abbrev pub syllableText : ℕ → List ℕ
+syllableText value = pick (eqb value 1) (ascii " A") (pick (eqb value 2) (ascii " B") (ascii " P"))
 
 abbrev pub alsoText : Refusal → List ℕ
 alsoText why =
     pick (eqb (numberOf why) 3) (named " word " (alsoAnswers why))
-    (pick (eqb (numberOf why) 9) (named " at " (alsoAnswers why)) [])
+    (pick (eqb (numberOf why) 9) (named " at " (alsoAnswers why))
+    (pick (leb 20 (numberOf why) && leb (numberOf why) 22) (syllableText (alsoAnswers why)) []))
 
 abbrev pub refusalText : Refusal → List ℕ
 refusalText why = named "refused " (numberOf why) ++ alsoText why

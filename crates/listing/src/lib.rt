@@ -8,7 +8,18 @@ ghost use Rattle.listing.specs.Lists as lists;
 
 // ---- refusals
 
-// "`refused K`, for number 3 `refused 3 word I`, for number 9 `refused 9 at I`"
+// A syllable's letter, by the value that names it.
+fn put_syllable(out: &mut [u8], at: usize, value: u64) -> usize
+    ensures { λ r. ⌜ Puts (lists.syllableText value) at (now (out .entry)) (now (out .exit)) r ⌝ }
+{
+    match value {
+        1 => output::put(out, at, b" A"),
+        2 => output::put(out, at, b" B"),
+        _ => output::put(out, at, b" P"),
+    }
+}
+
+// "`refused K`, for number 3 `refused 3 word I`, for number 9 `refused 9 at I`"; "20, 21 and 22 name their syllable"
 pub fn put_refusal(out: &mut [u8], why: Refusal) -> usize
     ensures { λ r. ⌜ Puts (lists.refusalText why) 0 (now (out .entry)) (now (out .exit)) r ⌝ }
 {
@@ -20,6 +31,9 @@ pub fn put_refusal(out: &mut [u8], why: Refusal) -> usize
     }
     if number == 9 {
         return output::put_named(out, n, b" at ", also);
+    }
+    if (20 <= number) & (number <= 22) {
+        return put_syllable(out, n, also);
     }
     n
 }

@@ -1,6 +1,6 @@
 -- Chains of checks: the first that is not passed is the answer.
 use Prim.Native.Nat.{ℕ, zero, suc, _+_, _/_, _^_, _≤_, _<_}
-use mathlib.Core.Path.{_≡_, refl, sym, _∙_}
+use mathlib.Core.Path.{_≡_, refl, sym, ap, _∙_}
 use mathlib.Core.Bool.{Bool, true, false, not, _||_}
 use mathlib.Core.Logic.{_⊎_, inl, inr, ⊎-elim}
 use mathlib.Core.List.{List, [], _∷_}
@@ -18,12 +18,12 @@ use Rattle.machine.specs.declared.Found.{Found}
 use Rattle.machine.specs.declared.Found.the-variants.{At, Nothing}
 use Rattle.machine.specs.declared.Lines.{Lines}
 use Rattle.machine.specs.declared.Refusal.{Refusal}
-use Rattle.machine.specs.declared.Refusal.the-variants.{Size, Width, WordTooWide, PanelTooWide, TwoCodes, WrongLines, NoSuchWord, Unfit, Malformed, NoRoom, NotShown}
+use Rattle.machine.specs.declared.Refusal.the-variants.{Size, Width, WordTooWide, PanelTooWide, TwoCodes, WrongLines, NoSuchWord, EmptySyllable, BeyondWord, Overlap, NoSuchBit, BitsClash, WrongJob, Malformed, NoRoom, NotShown}
 use Rattle.machine.specs.declared.Check.{Check}
 use Rattle.machine.specs.declared.Check.the-variants.{Passed, Refused}
 use Rattle.machine.specs.Resolution.{lowest}
 use Rattle.machine.specs.Machine.{Machine}
-use Rattle.machine.specs.Refusals.{badSize, badWidth, tooWide, badPanel, badCodes, badLines, badAddress, _else_, refuse, refuseWord, machineCheck, pulseCheck, tells}
+use Rattle.machine.specs.Refusals.{badSize, badWidth, tooWide, badPanel, badCodes, badLines, badAddress, _else_, refuse, refuseWord, machineCheck, pulseCheck, tells, numbers, turn}
 
 -- ---- one link of a chain, in the code's terms: d is what the code answers, t its test
 
@@ -74,26 +74,44 @@ unfolding lowest
 none-lowest n k [] h = refl
 none-lowest n k (w ∷ ws) h = rw (lt-leb (2 ^ n) w (h 0 (omega arith))) (none-lowest n (suc k) ws (λ j g. h (suc j) (omega arith)))
 
--- ---- a refusal's number is not 0
+-- ---- each refusal's number is one of those that are checked; so it is not 0, and not 8: "8 is retired"
+
+pub listed : (r : Refusal) → turn (tells r .0) < length numbers
+listed Size = omega arith
+listed Width = omega arith
+listed (WordTooWide k) = omega arith
+listed PanelTooWide = omega arith
+listed TwoCodes = omega arith
+listed WrongLines = omega arith
+listed NoSuchWord = omega arith
+listed (EmptySyllable s) = omega arith
+listed (BeyondWord s) = omega arith
+listed (Overlap s) = omega arith
+listed NoSuchBit = omega arith
+listed BitsClash = omega arith
+listed WrongJob = omega arith
+listed (Malformed place) = omega arith
+listed NoRoom = omega arith
+listed NotShown = omega arith
+
+not-listed : (k n : ℕ) → turn n < length numbers → n ≡ k → length numbers ≤ turn k → ⊥
+not-listed k n h e g = let x : turn n ≡ turn k = ap turn e in omega (arith, x)
 
 pub some-number : (r : Refusal) → tells r .0 ≡ 0 → ⊥
-some-number Size e = omega (arith, e)
-some-number Width e = omega (arith, e)
-some-number (WordTooWide k) e = omega (arith, e)
-some-number PanelTooWide e = omega (arith, e)
-some-number TwoCodes e = omega (arith, e)
-some-number WrongLines e = omega (arith, e)
-some-number NoSuchWord e = omega (arith, e)
-some-number Unfit e = omega (arith, e)
-some-number (Malformed place) e = omega (arith, e)
-some-number NoRoom e = omega (arith, e)
-some-number NotShown e = omega (arith, e)
+some-number r e = not-listed 0 (tells r .0) (listed r) e (omega arith)
+
+pub not-eight : (r : Refusal) → tells r .0 ≡ 8 → ⊥
+not-eight r e = not-listed 8 (tells r .0) (listed r) e (omega arith)
 
 -- ---- what a check that is passed shows
 
 pub else-passed : (c d : Check) → (c else d) ≡ Passed → (c ≡ Passed) × (d ≡ Passed)
 else-passed Passed d h = (refl, h)
 else-passed (Refused r) d h = (cc, cc)
+
+pub else-assoc : (b c d : Check) → ((b else c) else d) ≡ (b else c else d)
+else-assoc Passed c d = refl
+else-assoc (Refused r) c d = refl
 
 pub else-refused : (r : Refusal) (c d : Check) → c ≡ Refused r → Refused r ≡ (c else d)
 else-refused r c d h = rw h

@@ -1,18 +1,21 @@
--- Document 01, 'Numbers given when a call is turned down', with 4 and 5 as document 02, request c, has them: 1 to 7, and what a pulse answers and
--- leaves.
+-- Document 01, 'Numbers given when a call is turned down', with 4 and 5 as document 02, request c, has them and 20 to 25 of its request d: the
+-- conditions of 1 to 7 and of response bits, the numbers and their order, and what a pulse answers and leaves.
 use Prim.Native.Nat.{ℕ, _+_, _^_}
 use mathlib.Core.Bool.{Bool, true, false, not, _&&_, _||_}
+use mathlib.Core.List.{List, [], _∷_}
 use lib.Dec.{ltb, leb, eqb}
 use lib.ListN.{length}
-use Rattle.laws.specs.Bits.{bit, digit}
+use Rattle.laws.specs.Bits.{bit, digit, pick}
 use Rattle.laws.specs.Lists.{all}
 use Rattle.machine.specs.declared.Panel.{Panel}
 use Rattle.machine.specs.declared.Lines.{Lines}
 use Rattle.machine.specs.declared.ResponseBit.{ResponseBit}
 use Rattle.machine.specs.declared.Found.{Found}
 use Rattle.machine.specs.declared.Found.the-variants.{At, Nothing}
+use Rattle.machine.specs.declared.Syllable.{Syllable}
+use Rattle.machine.specs.declared.Syllable.the-variants.{A, B, P}
 use Rattle.machine.specs.declared.Refusal.{Refusal}
-use Rattle.machine.specs.declared.Refusal.the-variants.{Size, Width, WordTooWide, PanelTooWide, TwoCodes, WrongLines, NoSuchWord, Unfit, Malformed, NoRoom, NotShown}
+use Rattle.machine.specs.declared.Refusal.the-variants.{Size, Width, WordTooWide, PanelTooWide, TwoCodes, WrongLines, NoSuchWord, EmptySyllable, BeyondWord, Overlap, NoSuchBit, BitsClash, WrongJob, Malformed, NoRoom, NotShown}
 use Rattle.machine.specs.declared.Check.{Check}
 use Rattle.machine.specs.declared.Check.the-variants as check
 use Rattle.machine.specs.declared.Answer.{Answer}
@@ -97,22 +100,22 @@ pulseCheck m p l = machineCheck m
     else refuse TwoCodes (badCodes (m .width) p l)
     else commandCheck (length (m .words)) p l
 
--- ---- 8, of response bits: what jobs and rounds share
+-- ---- 02 d, of response bits: what jobs and rounds share. "Round calls give 23 and 24 too."
 
--- "a response bit above 7"
+-- 23: "response bit above 7"
 abbrev pub bitCheck : ResponseBit → Check
-bitCheck x = refuse Unfit (leb responseBits (x .0))
+bitCheck x = refuse NoSuchBit (leb responseBits (x .0))
 
--- "X equal to Y or F"
+-- 24: "working bits clash": 01's "X equal to Y or F"
 abbrev pub apartCheck : ResponseBit → ResponseBit → Check
-apartCheck x y = refuse Unfit (eqb (x .0) (y .0))
+apartCheck x y = refuse BitsClash (eqb (x .0) (y .0))
 
--- "a working bit in care"
+-- 24: "or stand in care"
 abbrev pub inCare : ℕ → ResponseBit → Bool
 inCare care x = eqb (bit care (x .0)) 1
 
 abbrev pub careCheck : ℕ → ResponseBit → Check
-careCheck care x = refuse Unfit (inCare care x)
+careCheck care x = refuse BitsClash (inCare care x)
 
 -- ---- what a pulse answers, and what stands in the machine afterwards
 
@@ -134,6 +137,12 @@ after m p l = changeBy (pulseCheck m p l) (pulsed m p l) m
 
 -- ---- each answer's number and values; "other answer fields are 0"
 
+-- 02 d: "For 20 to 22 also name the syllable": the value that names it (house)
+abbrev pub valueOf : Syllable → ℕ
+valueOf A = 1
+valueOf B = 2
+valueOf P = 3
+
 -- the table's number of each refusal, and what it also answers
 abbrev pub tells : Refusal → ℕ × ℕ
 tells Size = (1, 0)
@@ -143,7 +152,12 @@ tells PanelTooWide = (4, 0)
 tells TwoCodes = (5, 0)
 tells WrongLines = (6, 0)
 tells NoSuchWord = (7, 0)
-tells Unfit = (8, 0)
+tells (EmptySyllable s) = (20, valueOf s)
+tells (BeyondWord s) = (21, valueOf s)
+tells (Overlap s) = (22, valueOf s)
+tells NoSuchBit = (23, 0)
+tells BitsClash = (24, 0)
+tells WrongJob = (25, 0)
 tells (Malformed place) = (9, place)
 tells NoRoom = (10, 0)
 tells NotShown = (11, 0)
@@ -153,6 +167,19 @@ numberOf r = tells r .0
 
 abbrev pub alsoAnswers : Refusal → ℕ
 alsoAnswers r = tells r .1
+
+-- 02 d: "8 is retired and 20 to 25 stand in its place in the order, lowest first": the numbers as they are checked, one after the other; 12 is the
+-- array's own
+abbrev pub numbers : List ℕ
+numbers = 1 ∷ 2 ∷ 3 ∷ 4 ∷ 5 ∷ 6 ∷ 7 ∷ 20 ∷ 21 ∷ 22 ∷ 23 ∷ 24 ∷ 25 ∷ 9 ∷ 10 ∷ 11 ∷ []
+
+abbrev pub turnIn : List ℕ → ℕ → ℕ
+turnIn [] k = 0
+turnIn (j ∷ js) k = pick (eqb j k) 0 (1 + turnIn js k)
+
+-- a number's turn among them: the lower one is the one whose turn comes first
+abbrev pub turn : ℕ → ℕ
+turn k = turnIn numbers k
 
 -- the refusal's number, 0 for none, and what it also answers; the count and the word read
 pub record Told : Type 0 where

@@ -8,7 +8,7 @@ ghost use Rattle.machine.specs.Panel.{registers, panelOf, load};
 ghost use Rattle.machine.specs.Machine.{machine, responseBits, selected};
 ghost use Rattle.machine.specs.Resolution.{lowest};
 ghost use Rattle.machine.specs.Words.{union};
-ghost use Rattle.machine.specs.Refusals.{badSize, badWidth, tooWide, badPanel, badLines, badAddress, inCare, _else_, refuse, refuseWord, machineCheck, commandCheck, bitCheck, apartCheck, careCheck, numberOf, alsoAnswers};
+ghost use Rattle.machine.specs.Refusals.{badSize, badWidth, tooWide, badPanel, badLines, badAddress, inCare, _else_, refuse, refuseWord, machineCheck, commandCheck, bitCheck, apartCheck, careCheck, valueOf, numberOf, alsoAnswers, turn};
 
 // A word's response bits, and how many they are: named once.
 pub type Response = u8;
@@ -161,7 +161,14 @@ pub enum Found {
     Nothing,
 }
 
-// Why a call is turned down.
+// The syllable of a job that a refusal names. 02 d: "A before B before P".
+pub enum Syllable {
+    A,
+    B,
+    P,
+}
+
+// Why a call is turned down, in the order in which it is checked.
 pub enum Refusal {
     Size,
     Width,
@@ -170,13 +177,18 @@ pub enum Refusal {
     TwoCodes,
     WrongLines,
     NoSuchWord,
-    Unfit,
+    EmptySyllable(Syllable),
+    BeyondWord(Syllable),
+    Overlap(Syllable),
+    NoSuchBit,
+    BitsClash,
+    WrongJob,
     Malformed(usize),
     NoRoom,
     NotShown,
 }
 
-// Document 01's number of each.
+// Document 01's number of each; 20 to 25 are 02 d's.
 pub fn number_of(why: Refusal) -> u64
     ensures { λ r. ⌜ (r ≡ numberOf why) × (r < 256) ⌝ }
 {
@@ -188,10 +200,25 @@ pub fn number_of(why: Refusal) -> u64
         Refusal::TwoCodes => 5,
         Refusal::WrongLines => 6,
         Refusal::NoSuchWord => 7,
-        Refusal::Unfit => 8,
+        Refusal::EmptySyllable(_) => 20,
+        Refusal::BeyondWord(_) => 21,
+        Refusal::Overlap(_) => 22,
+        Refusal::NoSuchBit => 23,
+        Refusal::BitsClash => 24,
+        Refusal::WrongJob => 25,
         Refusal::Malformed(_) => 9,
         Refusal::NoRoom => 10,
         Refusal::NotShown => 11,
+    }
+}
+
+fn value_of(syllable: Syllable) -> u64
+    ensures { λ r. ⌜ r ≡ valueOf syllable ⌝ }
+{
+    match syllable {
+        Syllable::A => 1,
+        Syllable::B => 2,
+        Syllable::P => 3,
     }
 }
 
@@ -207,10 +234,39 @@ pub fn also_of(why: Refusal) -> u64
         Refusal::TwoCodes => 0,
         Refusal::WrongLines => 0,
         Refusal::NoSuchWord => 0,
-        Refusal::Unfit => 0,
+        Refusal::EmptySyllable(syllable) => value_of(syllable),
+        Refusal::BeyondWord(syllable) => value_of(syllable),
+        Refusal::Overlap(syllable) => value_of(syllable),
+        Refusal::NoSuchBit => 0,
+        Refusal::BitsClash => 0,
+        Refusal::WrongJob => 0,
         Refusal::Malformed(place) => place as u64,
         Refusal::NoRoom => 0,
         Refusal::NotShown => 0,
+    }
+}
+
+// When its number's turn is: "20 to 25 stand in its place in the order".
+pub fn turn_of(why: Refusal) -> u64
+    ensures { λ r. ⌜ r ≡ turn (numberOf why) ⌝ }
+{
+    match why {
+        Refusal::Size => 0,
+        Refusal::Width => 1,
+        Refusal::WordTooWide(_) => 2,
+        Refusal::PanelTooWide => 3,
+        Refusal::TwoCodes => 4,
+        Refusal::WrongLines => 5,
+        Refusal::NoSuchWord => 6,
+        Refusal::EmptySyllable(_) => 7,
+        Refusal::BeyondWord(_) => 8,
+        Refusal::Overlap(_) => 9,
+        Refusal::NoSuchBit => 10,
+        Refusal::BitsClash => 11,
+        Refusal::WrongJob => 12,
+        Refusal::Malformed(_) => 13,
+        Refusal::NoRoom => 14,
+        Refusal::NotShown => 15,
     }
 }
 
@@ -410,20 +466,20 @@ pub fn check_command(words: usize, panel: Panel, lines: Lines) -> Check
     Check::Passed
 }
 
-// ---- 8, of response bits: what jobs and rounds share
+// ---- 02 d, of response bits: what jobs and rounds share
 
-// "a response bit above 7"
+// 23: "response bit above 7"
 pub fn check_bit(x: ResponseBit) -> Check
     ensures { λ r. ⌜ r ≡ bitCheck x ⌝ }
 {
-    refuse(Refusal::Unfit, RESPONSE_BITS <= x.0 as u32)
+    refuse(Refusal::NoSuchBit, RESPONSE_BITS <= x.0 as u32)
 }
 
-// "X equal to Y or F"
+// 24: "working bits clash"
 pub fn check_apart(x: ResponseBit, y: ResponseBit) -> Check
     ensures { λ r. ⌜ r ≡ apartCheck x y ⌝ }
 {
-    refuse(Refusal::Unfit, x.0 == y.0)
+    refuse(Refusal::BitsClash, x.0 == y.0)
 }
 
 // No response has a bit above its last, so care has none there either.
@@ -438,9 +494,9 @@ fn in_care(care: Response, x: ResponseBit) -> bool
     }
 }
 
-// "a working bit in care"
+// 24: "or stand in care"
 pub fn check_care(care: Response, x: ResponseBit) -> Check
     ensures { λ r. ⌜ r ≡ careCheck care x ⌝ }
 {
-    refuse(Refusal::Unfit, in_care(care, x))
+    refuse(Refusal::BitsClash, in_care(care, x))
 }

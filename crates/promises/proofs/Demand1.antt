@@ -1,9 +1,10 @@
 -- Demand 1: "Every call takes any input. What is wrong gets its refusal number from document 01, always the same one, and nothing lent changes."
+-- For 8 document 02, request d, has 20 to 25, which "stand in its place in the order, lowest first".
 -- That calls take any input is said by their contracts, which have no `requires`. Here: each call's refusal; `Answered` has what its answer
 -- tells, and that nothing lent changes.
 use Prim.Native.Nat.{ℕ, _+_}
 use mathlib.Core.Path.{_≡_, refl, sym, ap, _∙_}
-use mathlib.Core.Bool.{Bool, true, false, not, _||_}
+use mathlib.Core.Bool.{Bool, true, false, not, _&&_, _||_}
 use native.Mathlib.Omega.{arith}
 use lib.Dec.{ltb, leb, eqb}
 use mathlib.Core.List.{List, [], _∷_}
@@ -15,13 +16,16 @@ use Rattle.machine.specs.declared.WordSlice.{WordSlice}
 use Rattle.machine.specs.declared.ResponseBit.{ResponseBit}
 use Rattle.machine.specs.declared.Found.{Found}
 use Rattle.machine.specs.declared.Found.the-variants.{At, Nothing}
+use Rattle.machine.specs.declared.Syllable.{Syllable}
+use Rattle.machine.specs.declared.Syllable.the-variants.{A, B, P}
 use Rattle.machine.specs.declared.Refusal.{Refusal}
 use Rattle.machine.specs.declared.Refusal.the-variants.{Size, Width, PanelTooWide, TwoCodes, WrongLines, NoSuchWord, NoRoom, NotShown}
 use Rattle.machine.specs.declared.Check.{Check}
 use Rattle.machine.specs.declared.Check.the-variants.{Passed, Refused}
 use Rattle.machine.specs.Machine.{Machine, responseBits}
 use Rattle.machine.specs.Resolution.{lowest}
-use Rattle.machine.specs.Refusals.{badSize, badWidth, tooWide, badPanel, badCodes, badLines, badAddress, inCare, bitCheck, apartCheck, careCheck, _else_, refuse, refuseWord, machineCheck, pulseCheck, tells, numberOf, alsoAnswers}
+use Rattle.machine.specs.Refusals.{badSize, badWidth, tooWide, badPanel, badCodes, badLines, badAddress, inCare, bitCheck, apartCheck, careCheck, _else_, refuse, refuseWord, machineCheck, pulseCheck, valueOf, tells, turn}
+use Rattle.machine.proofs.Refusals.{else-assoc}
 use Rattle.job_plans.specs.declared.Span.{Span}
 use Rattle.job_plans.specs.declared.Job.{Job}
 use Rattle.job_plans.specs.declared.Held.{Held}
@@ -54,9 +58,16 @@ first [] = (0, 0)
 first (e ∷ es) = pick (e .holds) (e .number, e .also) (first es)
 
 -- 3: "lowest such word"
+abbrev pub wordOf : Found → ℕ
+wordOf (At k) = k .0
+wordOf Nothing = 0
+
+abbrev pub isFound : Found → Bool
+isFound (At k) = true
+isFound Nothing = false
+
 abbrev pub stray : Found → Entry
-stray (At k) = record { number = 3; also = k .0; holds = true }
-stray Nothing = record { number = 3; also = 0; holds = false }
+stray f = record { number = 3; also = wordOf f; holds = isFound f }
 
 -- 1 to 3, with which every call's table begins but that of reading, and then the rest
 abbrev pub machineTable : Machine → List Entry → List Entry
@@ -74,54 +85,63 @@ pulseTable m p l =
     ∷ entry 7 (badAddress (length (m .words)) p l)
     ∷ [])
 
--- ---- 8, condition by condition, and then the rest of a call's table
+-- ---- 20 to 25, condition by condition, and then the rest of a call's table
 
--- "a response bit above 7"
+-- "For 20 to 22 also name the syllable"
+abbrev pub naming : ℕ → Syllable → Bool → Entry
+naming k name b = record { number = k; also = valueOf name; holds = b }
+
+-- "20 syllable empty"
+abbrev pub empty : Syllable → Span → Entry
+empty name s = naming 20 name (eqb (s .width) 0)
+
+-- "21 syllable beyond the word"
+abbrev pub beyond : ℕ → Syllable → Span → Entry
+beyond n name s = naming 21 name (ltb n (s .low .0 + s .width))
+
+-- "22 result overlaps a source", "for 22 the source"
+abbrev pub shared : Span → Syllable → Span → Entry
+shared p name s = naming 22 name (overlaps p s)
+
+-- "23 response bit above 7"
 abbrev pub aboveLast : ResponseBit → Entry
-aboveLast x = entry 8 (leb responseBits (x .0))
+aboveLast x = entry 23 (leb responseBits (x .0))
 
--- "X equal to Y or F"
+-- "24 working bits clash"
 abbrev pub alike : ResponseBit → ResponseBit → Entry
-alike x y = entry 8 (eqb (x .0) (y .0))
+alike x y = entry 24 (eqb (x .0) (y .0))
 
--- "a working bit in care"
+-- "or stand in care"
 abbrev pub amongCare : ℕ → ResponseBit → Entry
-amongCare care x = entry 8 (inCare care x)
+amongCare care x = entry 24 (inCare care x)
 
--- "a syllable of width 0 or beyond N"
-abbrev pub empty : Span → Entry
-empty s = entry 8 (eqb (s .width) 0)
-
-abbrev pub beyond : ℕ → Span → Entry
-beyond n s = entry 8 (ltb n (s .low .0 + s .width))
-
--- "P overlapping A or B"
-abbrev pub shared : Span → Span → Entry
-shared p s = entry 8 (overlaps p s)
+-- "25 unknown kind or place, unused field not 0, start while one is held, step while none is"
+abbrev pub wrongJob : Bool → Entry
+wrongJob b = entry 25 b
 
 abbrev pub pairTable : ResponseBit → ResponseBit → List Entry → List Entry
 pairTable x f rest = aboveLast x ∷ aboveLast f ∷ alike x f ∷ rest
 
--- "Of a job 8 judges used fields"; "a job kind .. not in the table"
+-- "Of a job 8 judges used fields"; "an unknown kind gets only 25"
 abbrev pub usedTable : Kind → ℕ → Job → List Entry → List Entry
 usedTable greatest n o rest =
-    empty (o .a) ∷ beyond n (o .a) ∷ aboveLast (o .x) ∷ aboveLast (o .y) ∷ alike (o .x) (o .y) ∷ amongCare (o .care) (o .x) ∷ amongCare (o .care) (o .y) ∷ rest
+    empty A (o .a) ∷ beyond n A (o .a) ∷ aboveLast (o .x) ∷ aboveLast (o .y) ∷ alike (o .x) (o .y) ∷ amongCare (o .care) (o .x) ∷ amongCare (o .care) (o .y) ∷ rest
 usedTable smallest n o rest =
-    empty (o .a) ∷ beyond n (o .a) ∷ aboveLast (o .x) ∷ aboveLast (o .y) ∷ alike (o .x) (o .y) ∷ amongCare (o .care) (o .x) ∷ amongCare (o .care) (o .y) ∷ rest
+    empty A (o .a) ∷ beyond n A (o .a) ∷ aboveLast (o .x) ∷ aboveLast (o .y) ∷ alike (o .x) (o .y) ∷ amongCare (o .care) (o .x) ∷ amongCare (o .care) (o .y) ∷ rest
 usedTable scaledAdd n o rest =
-    empty (o .a) ∷ empty (o .p) ∷ beyond n (o .a) ∷ beyond n (o .p) ∷ shared (o .p) (o .a) ∷ aboveLast (o .y) ∷ amongCare (o .care) (o .y) ∷ rest
+    empty A (o .a) ∷ empty P (o .p) ∷ beyond n A (o .a) ∷ beyond n P (o .p) ∷ shared (o .p) A (o .a) ∷ aboveLast (o .y) ∷ amongCare (o .care) (o .y) ∷ rest
 usedTable product n o rest =
-    empty (o .a) ∷ empty (o .b) ∷ empty (o .p) ∷ beyond n (o .a) ∷ beyond n (o .b) ∷ beyond n (o .p) ∷ shared (o .p) (o .a) ∷ shared (o .p) (o .b)
+    empty A (o .a) ∷ empty B (o .b) ∷ empty P (o .p) ∷ beyond n A (o .a) ∷ beyond n B (o .b) ∷ beyond n P (o .p) ∷ shared (o .p) A (o .a) ∷ shared (o .p) B (o .b)
     ∷ aboveLast (o .y) ∷ amongCare (o .care) (o .y) ∷ rest
-usedTable unknown n o rest = entry 8 true ∷ rest
+usedTable unknown n o rest = wrongJob true ∷ rest
 
 -- "its place only after the start, and then too that others are 0"
 abbrev pub heldTable : ℕ → Job → List Entry → List Entry
-heldTable n o rest = usedTable (kindOf (o .kind)) n o (entry 8 (not (unusedZero o)) ∷ entry 8 (not (inTable o)) ∷ rest)
+heldTable n o rest = usedTable (kindOf (o .kind)) n o (wrongJob (not (unusedZero o)) ∷ wrongJob (not (inTable o)) ∷ rest)
 
--- "a step while none is"
+-- "step while none is"
 abbrev pub stepTable : ℕ → Held → List Entry → List Entry
-stepTable n held.Nothing rest = entry 8 true ∷ rest
+stepTable n held.Nothing rest = wrongJob true ∷ rest
 stepTable n (held.Holds o) rest = heldTable n o rest
 
 -- every held job, of an image
@@ -140,16 +160,16 @@ roundTable x f m = machineTable m (pairTable x f [])
 abbrev pub answerTable : ResponseBit → ResponseBit → WordSlice → Machine → List Entry
 answerTable x f k m = machineTable m (pairTable x f (entry 11 (otherThan k (shown x m)) ∷ []))
 
--- "a start while a job is held"
+-- "a start judges the job offered"; "start while one is held"
 abbrev pub startTable : Machine → Held → Job → List Entry
-startTable m h o = machineTable m (usedTable (kindOf (o .kind)) (m .width) o (entry 8 (isHeld h) ∷ []))
+startTable m h o = machineTable m (usedTable (kindOf (o .kind)) (m .width) o (wrongJob (isHeld h) ∷ []))
 
 abbrev pub stepsTable : Machine → Held → List Entry
 stepsTable m h = machineTable m (stepTable (m .width) h [])
 
 -- (house): of a job that is not at its first place
 abbrev pub totalTable : Machine → Held → List Entry
-totalTable m h = machineTable m (stepTable (m .width) h (entry 8 (not (isFirst h)) ∷ []))
+totalTable m h = machineTable m (stepTable (m .width) h (wrongJob (not (isFirst h)) ∷ []))
 
 abbrev pub writeTable : State → ℕ → List Entry
 writeTable s room =
@@ -195,21 +215,17 @@ true-false : {A : Type 0} → true ≡ false → A
 true-false e = let z : _≡_ {A = ℕ} 0 1 = cc in absurd (omega arith)
 
 -- one entry
-link : (k : ℕ) (c : Check) (b : Bool) → (b ≡ true → given c ≡ (k, 0)) → (b ≡ true → (d : Check) → (c else d) ≡ c) → (b ≡ false → c ≡ Passed)
-    → Tabled c (λ es. entry k b ∷ es)
+link : (k also : ℕ) (c : Check) (b : Bool) → (b ≡ true → given c ≡ (k, also)) → (b ≡ true → (d : Check) → (c else d) ≡ c) → (b ≡ false → c ≡ Passed)
+    → Tabled c (λ es. record { number = k; also = also; holds = b } ∷ es)
 unfolding first
-link k c true f g h = record { before = λ d es e. rw (g refl d) (f refl) }
-link k c false f g h = record { before = λ d es e. rw (h refl) e }
+link k also c true f g h = record { before = λ d es e. rw (g refl d) (f refl) }
+link k also c false f g h = record { before = λ d es e. rw (h refl) e }
 
 infixr 20 _then_
 -- one after the other
 _then_ : {c d : Check} {s t : List Entry → List Entry} → Tabled c s → Tabled d t → Tabled (c else d) (λ es. s (t es))
 _then_ {c} {d} {s} {t} f g =
-    record { before = λ e es h. ap given (regroup c d e) ∙ f .before (d else e) (t es) (g .before e es h) }
-  where
-    regroup : (b c d : Check) → ((b else c) else d) ≡ (b else c else d)
-    regroup Passed c d = refl
-    regroup (Refused r) c d = refl
+    record { before = λ e es h. ap given (else-assoc c d e) ∙ f .before (d else e) (t es) (g .before e es h) }
 
 -- with nothing after it
 whole : {c : Check} {t : List Entry → List Entry} → Tabled c t → given c ≡ first (t [])
@@ -221,54 +237,54 @@ whole {c} f = sym (passed-else c) ∙ f .before Passed [] refl
     passed-else (Refused r) = refl
 
 four : (n : ℕ) (p : Panel) → Tabled (refuse PanelTooWide (badPanel n p)) (λ es. entry 4 (badPanel n p) ∷ es)
-four n p = link 4 (refuse PanelTooWide (badPanel n p)) (badPanel n p) (λ e. rw e) (λ e d. rw e) (λ e. rw e)
+four n p = link 4 0 (refuse PanelTooWide (badPanel n p)) (badPanel n p) (λ e. rw e) (λ e d. rw e) (λ e. rw e)
 
 five : (n : ℕ) (p : Panel) (l : Lines) → Tabled (refuse TwoCodes (badCodes n p l)) (λ es. entry 5 (badCodes n p l) ∷ es)
-five n p l = link 5 (refuse TwoCodes (badCodes n p l)) (badCodes n p l) (λ e. rw e) (λ e d. rw e) (λ e. rw e)
+five n p l = link 5 0 (refuse TwoCodes (badCodes n p l)) (badCodes n p l) (λ e. rw e) (λ e d. rw e) (λ e. rw e)
 
 six : (l : Lines) → Tabled (refuse WrongLines (badLines l)) (λ es. entry 6 (badLines l) ∷ es)
-six l = link 6 (refuse WrongLines (badLines l)) (badLines l) (λ e. rw e) (λ e d. rw e) (λ e. rw e)
+six l = link 6 0 (refuse WrongLines (badLines l)) (badLines l) (λ e. rw e) (λ e d. rw e) (λ e. rw e)
 
 seven : (n : ℕ) (p : Panel) (l : Lines) → Tabled (refuse NoSuchWord (badAddress n p l)) (λ es. entry 7 (badAddress n p l) ∷ es)
-seven n p l = link 7 (refuse NoSuchWord (badAddress n p l)) (badAddress n p l) (λ e. rw e) (λ e d. rw e) (λ e. rw e)
+seven n p l = link 7 0 (refuse NoSuchWord (badAddress n p l)) (badAddress n p l) (λ e. rw e) (λ e d. rw e) (λ e. rw e)
 
 ten : (b : Bool) → Tabled (refuse NoRoom b) (λ es. entry 10 b ∷ es)
-ten b = link 10 (refuse NoRoom b) b (λ e. rw e) (λ e d. rw e) (λ e. rw e)
+ten b = link 10 0 (refuse NoRoom b) b (λ e. rw e) (λ e d. rw e) (λ e. rw e)
 
 eleven : (b : Bool) → Tabled (refuse NotShown b) (λ es. entry 11 b ∷ es)
-eleven b = link 11 (refuse NotShown b) b (λ e. rw e) (λ e d. rw e) (λ e. rw e)
+eleven b = link 11 0 (refuse NotShown b) b (λ e. rw e) (λ e d. rw e) (λ e. rw e)
 
--- ---- 8, leaf by leaf
+-- ---- 20 to 25, leaf by leaf
 
 bit-leaf : (x : ResponseBit) → Tabled (bitCheck x) (λ es. aboveLast x ∷ es)
-bit-leaf x = link 8 (bitCheck x) (leb responseBits (x .0)) (λ e. rw e) (λ e d. rw e) (λ e. rw e)
+bit-leaf x = link 23 0 (bitCheck x) (leb responseBits (x .0)) (λ e. rw e) (λ e d. rw e) (λ e. rw e)
 
 apart-leaf : (x y : ResponseBit) → Tabled (apartCheck x y) (λ es. alike x y ∷ es)
-apart-leaf x y = link 8 (apartCheck x y) (eqb (x .0) (y .0)) (λ e. rw e) (λ e d. rw e) (λ e. rw e)
+apart-leaf x y = link 24 0 (apartCheck x y) (eqb (x .0) (y .0)) (λ e. rw e) (λ e d. rw e) (λ e. rw e)
 
 care-leaf : (care : ℕ) (x : ResponseBit) → Tabled (careCheck care x) (λ es. amongCare care x ∷ es)
-care-leaf care x = link 8 (careCheck care x) (inCare care x) (λ e. rw e) (λ e d. rw e) (λ e. rw e)
+care-leaf care x = link 24 0 (careCheck care x) (inCare care x) (λ e. rw e) (λ e d. rw e) (λ e. rw e)
 
-empty-leaf : (s : Span) → Tabled (emptyCheck s) (λ es. empty s ∷ es)
-empty-leaf s = link 8 (emptyCheck s) (eqb (s .width) 0) (λ e. rw e) (λ e d. rw e) (λ e. rw e)
+empty-leaf : (name : Syllable) (s : Span) → Tabled (emptyCheck name s) (λ es. empty name s ∷ es)
+empty-leaf name s = link 20 (valueOf name) (emptyCheck name s) (eqb (s .width) 0) (λ e. rw e) (λ e d. rw e) (λ e. rw e)
 
-beyond-leaf : (n : ℕ) (s : Span) → Tabled (beyondCheck n s) (λ es. beyond n s ∷ es)
-beyond-leaf n s = link 8 (beyondCheck n s) (ltb n (s .low .0 + s .width)) (λ e. rw e) (λ e d. rw e) (λ e. rw e)
+beyond-leaf : (n : ℕ) (name : Syllable) (s : Span) → Tabled (beyondCheck n name s) (λ es. beyond n name s ∷ es)
+beyond-leaf n name s = link 21 (valueOf name) (beyondCheck n name s) (ltb n (s .low .0 + s .width)) (λ e. rw e) (λ e d. rw e) (λ e. rw e)
 
-shared-leaf : (p s : Span) → Tabled (overlapCheck p s) (λ es. shared p s ∷ es)
-shared-leaf p s = link 8 (overlapCheck p s) (overlaps p s) (λ e. rw e) (λ e d. rw e) (λ e. rw e)
+shared-leaf : (p : Span) (name : Syllable) (s : Span) → Tabled (overlapCheck p name s) (λ es. shared p name s ∷ es)
+shared-leaf p name s = link 22 (valueOf name) (overlapCheck p name s) (overlaps p s) (λ e. rw e) (λ e d. rw e) (λ e. rw e)
 
-unused-leaf : (o : Job) → Tabled (unusedCheck o) (λ es. entry 8 (not (unusedZero o)) ∷ es)
-unused-leaf o = link 8 (unusedCheck o) (not (unusedZero o)) (λ e. rw e) (λ e d. rw e) (λ e. rw e)
+unused-leaf : (o : Job) → Tabled (unusedCheck o) (λ es. wrongJob (not (unusedZero o)) ∷ es)
+unused-leaf o = link 25 0 (unusedCheck o) (not (unusedZero o)) (λ e. rw e) (λ e d. rw e) (λ e. rw e)
 
-place-leaf : (o : Job) → Tabled (placeCheck o) (λ es. entry 8 (not (inTable o)) ∷ es)
-place-leaf o = link 8 (placeCheck o) (not (inTable o)) (λ e. rw e) (λ e d. rw e) (λ e. rw e)
+place-leaf : (o : Job) → Tabled (placeCheck o) (λ es. wrongJob (not (inTable o)) ∷ es)
+place-leaf o = link 25 0 (placeCheck o) (not (inTable o)) (λ e. rw e) (λ e d. rw e) (λ e. rw e)
 
-free-leaf : (h : Held) → Tabled (freeCheck h) (λ es. entry 8 (isHeld h) ∷ es)
-free-leaf h = link 8 (freeCheck h) (isHeld h) (λ e. rw e) (λ e d. rw e) (λ e. rw e)
+free-leaf : (h : Held) → Tabled (freeCheck h) (λ es. wrongJob (isHeld h) ∷ es)
+free-leaf h = link 25 0 (freeCheck h) (isHeld h) (λ e. rw e) (λ e d. rw e) (λ e. rw e)
 
-first-leaf : (h : Held) → Tabled (firstCheck h) (λ es. entry 8 (not (isFirst h)) ∷ es)
-first-leaf h = link 8 (firstCheck h) (not (isFirst h)) (λ e. rw e) (λ e d. rw e) (λ e. rw e)
+first-leaf : (h : Held) → Tabled (firstCheck h) (λ es. wrongJob (not (isFirst h)) ∷ es)
+first-leaf h = link 25 0 (firstCheck h) (not (isFirst h)) (λ e. rw e) (λ e d. rw e) (λ e. rw e)
 
 of-pair : (x f : ResponseBit) → Tabled (pairCheck x f) (pairTable x f)
 unfolding pairCheck
@@ -277,20 +293,20 @@ of-pair x f = bit-leaf x then bit-leaf f then apart-leaf x f
 of-extreme : (n : ℕ) (o : Job) → Tabled (extremeCheck n o) (usedTable greatest n o)
 unfolding extremeCheck
 of-extreme n o =
-    empty-leaf (o .a) then beyond-leaf n (o .a) then bit-leaf (o .x) then bit-leaf (o .y) then apart-leaf (o .x) (o .y)
+    empty-leaf A (o .a) then beyond-leaf n A (o .a) then bit-leaf (o .x) then bit-leaf (o .y) then apart-leaf (o .x) (o .y)
     then care-leaf (o .care) (o .x) then care-leaf (o .care) (o .y)
 
 of-scaled-add : (n : ℕ) (o : Job) → Tabled (scaledAddCheck n o) (usedTable scaledAdd n o)
 unfolding scaledAddCheck
 of-scaled-add n o =
-    empty-leaf (o .a) then empty-leaf (o .p) then beyond-leaf n (o .a) then beyond-leaf n (o .p) then shared-leaf (o .p) (o .a)
+    empty-leaf A (o .a) then empty-leaf P (o .p) then beyond-leaf n A (o .a) then beyond-leaf n P (o .p) then shared-leaf (o .p) A (o .a)
     then bit-leaf (o .y) then care-leaf (o .care) (o .y)
 
 of-product : (n : ℕ) (o : Job) → Tabled (productCheck n o) (usedTable product n o)
 unfolding productCheck
 of-product n o =
-    empty-leaf (o .a) then empty-leaf (o .b) then empty-leaf (o .p) then beyond-leaf n (o .a) then beyond-leaf n (o .b) then beyond-leaf n (o .p)
-    then shared-leaf (o .p) (o .a) then shared-leaf (o .p) (o .b) then bit-leaf (o .y) then care-leaf (o .care) (o .y)
+    empty-leaf A (o .a) then empty-leaf B (o .b) then empty-leaf P (o .p) then beyond-leaf n A (o .a) then beyond-leaf n B (o .b) then beyond-leaf n P (o .p)
+    then shared-leaf (o .p) A (o .a) then shared-leaf (o .p) B (o .b) then bit-leaf (o .y) then care-leaf (o .care) (o .y)
 
 of-used : (n : ℕ) (o : Job) → Tabled (usedCheck n o) (usedTable (kindOf (o .kind)) n o)
 unfolding usedCheck
@@ -301,14 +317,14 @@ of-used n o = go (kindOf (o .kind))
     go smallest = of-extreme n o
     go scaledAdd = of-scaled-add n o
     go product = of-product n o
-    go unknown = link 8 (usedCheckFor unknown n o) true (λ e. refl) (λ e d. refl) (λ e. true-false e)
+    go unknown = link 25 0 (usedCheckFor unknown n o) true (λ e. refl) (λ e d. refl) (λ e. true-false e)
 
 of-held : (n : ℕ) (o : Job) → Tabled (heldCheck n o) (heldTable n o)
 unfolding heldCheck
 of-held n o = of-used n o then unused-leaf o then place-leaf o
 
 of-step : (n : ℕ) (h : Held) → Tabled (stepHeldCheck n h) (stepTable n h)
-of-step n held.Nothing = link 8 (stepHeldCheck n held.Nothing) true (λ e. refl) (λ e d. refl) (λ e. true-false e)
+of-step n held.Nothing = link 25 0 (stepHeldCheck n held.Nothing) true (λ e. refl) (λ e d. refl) (λ e. true-false e)
 of-step n (held.Holds o) = of-held n o
 
 of-jobs : (n : ℕ) (os : List Job) → Tabled (jobsCheck n os) (jobsTable n os)

@@ -7,6 +7,8 @@ pub mod Demand1
 pub mod Demand2
 pub mod Demand3
 pub mod Figures
+pub mod InOrder
+pub mod JobFigures
 pub mod Kept
 pub mod Meeting
 pub mod Rounds

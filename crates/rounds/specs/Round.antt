@@ -47,12 +47,12 @@ answered x f Faulty r = put f 1 (put x 0 r)
 abbrev pub answeredAt : ResponseBit → ResponseBit → WordSlice → Verdict → Machine → Machine
 answeredAt x f k v m = machine (m .width) (m .words) (set (m .responses) (k .0) (answered x f v (response m (k .0))))
 
--- ---- "show for 1 to 3 and 8; an answer for those and 11"; "show judges X, an answer X and F"
+-- ---- "show for 1 to 3 and 8; an answer for those and 11"; "show judges X, an answer X and F"; 02 d: "Round calls give 23 and 24 too."
 
 unfoldable pub showCheck : ResponseBit → Machine → Check
 showCheck x m = machineCheck m else bitCheck x
 
--- 8, of an answer: "a response bit above 7; X equal to Y or F"
+-- 23 and 24, of an answer: "response bit above 7", "working bits clash"
 unfoldable pub pairCheck : ResponseBit → ResponseBit → Check
 pairCheck x f = bitCheck x else bitCheck f else apartCheck x f
 

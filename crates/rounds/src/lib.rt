@@ -35,7 +35,7 @@ pub fn check_show(words: &[u64], responses: &[Response], width: u32, x: Response
     machine::in_order(sound, machine::check_bit(x))
 }
 
-// 8, of an answer.
+// 23 and 24, of an answer.
 fn check_pair(x: ResponseBit, f: ResponseBit) -> Check
     ensures { λ r. ⌜ r ≡ pairCheck x f ⌝ }
 {

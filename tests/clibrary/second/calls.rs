@@ -1,5 +1,6 @@
-//! What all calls do alike: they are turned down with the lowest number that
-//! applies, and tell it, or what they found, in the answer's buffer.
+//! What all calls do alike: they are turned down with the number that comes
+//! first, of all that apply, and tell it, or what they found, in the answer's
+//! buffer.
 
 use crate::lent::Open;
 use processor::machine::{refused, Refusal};
@@ -16,14 +17,35 @@ pub fn unless(met: bool, number: u8) -> Judged {
     }
 }
 
-/// "Always the lowest one that applies": of document 01's call, which gives
-/// its own lowest, and of the conditions that the header adds to it.
-pub fn lowest<T>(call: Result<T, Refusal>, added: &[Judged]) -> Result<T, Refusal> {
+/// "In the order 1 to 7, 20 to 25, 9, 10, 11": not that of the numbers
+/// themselves, since 20 to 25 stand where 8 stood.
+const ORDER: [u8; 16] = [1, 2, 3, 4, 5, 6, 7, 20, 21, 22, 23, 24, 25, 9, 10, 11];
+
+/// A number's place in that order. 12 has none: the array's calls, which alone
+/// give it, have an order of their own.
+fn place_of(number: u8) -> usize {
+    let place = ORDER.iter().position(|other| *other == number);
+    place.expect("a number that has a place in the order")
+}
+
+/// "Always the one that comes first, of all that apply": of document 01's call,
+/// which gives its own first, and of the conditions that the header adds to it.
+pub fn first<T>(call: Result<T, Refusal>, added: &[Judged]) -> Result<T, Refusal> {
     let own = call.as_ref().err().copied();
     let others = added.iter().filter_map(|judged| judged.err());
-    match others.chain(own).min_by_key(|refusal| refusal.number) {
+    let all = others.chain(own);
+    match all.min_by_key(|refusal| place_of(refusal.number)) {
         Some(refusal) => Err(refusal),
         None => call,
+    }
+}
+
+/// What a refusal also answers. The second program counts a job's syllables from
+/// 0; the header from 1, so that 0 is nothing here too.
+fn also_of(refusal: Refusal) -> u64 {
+    match refusal.number {
+        20..=22 => refusal.also as u64 + 1,
+        _ => refusal.also as u64,
     }
 }
 
@@ -56,15 +78,15 @@ impl Answer {
     pub fn tell(&self, outcome: Result<Vec<u64>, Refusal>) -> u32 {
         match outcome {
             Ok(values) => self.put(0, 0, &values),
-            Err(refusal) => self.put(refusal.number, refusal.also, &[]),
+            Err(refusal) => self.put(refusal.number, also_of(refusal), &[]),
         }
     }
 
     /// "The others are the call's values, all 0 on a refusal"; a buffer that
     /// is too short "stays as it was".
-    fn put(&self, number: u8, also: usize, values: &[u64]) -> u32 {
+    fn put(&self, number: u8, also: u64, values: &[u64]) -> u32 {
         if self.room().is_ok() {
-            let mut numbers = vec![u64::from(number), also as u64];
+            let mut numbers = vec![u64::from(number), also];
             numbers.extend_from_slice(values);
             numbers.resize(self.size, 0);
             self.buffer.put(&numbers);

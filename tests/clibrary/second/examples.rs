@@ -1,5 +1,5 @@
 //! What the header adds to document 01, by examples: which of several numbers
-//! is the lowest, what stands in every buffer afterwards, wrong lengths, whole
+//! comes first, what stands in every buffer afterwards, wrong lengths, whole
 //! rounds, and the array's operations by their codes.
 
 use crate::hosts::*;
@@ -11,7 +11,7 @@ use second::rounds::second_scan;
 pub fn run(tally: &mut Tally) {
     bad_images(tally);
     held_image(tally);
-    lowest_of_a_pulse(tally);
+    first_of_a_pulse(tally);
     room_for_answers(tally);
     empty_buffers(tally);
     loads(tally);
@@ -69,11 +69,11 @@ fn held_image(tally: &mut Tally) {
         (host.words.clone(), job),
     );
     let zeros = host.write(&[0; 22], &mut image);
-    tally.same("22 zeros are no job", zeros, refused(8, 0, 3));
+    tally.same("22 zeros: kind 0", zeros, refused(25, 0, 3));
 }
 
-/// Of two or more numbers the lowest is given, and nothing lent changes.
-fn lowest_of_a_pulse(tally: &mut Tally) {
+/// Of two or more numbers the first is given, and nothing lent changes.
+fn first_of_a_pulse(tally: &mut Tally) {
     type Spoil = fn(&mut Host);
     let two_codes: Spoil = |host| {
         host.panel[SC1] = 0x01;
@@ -192,11 +192,11 @@ fn rounds(tally: &mut Tally) {
     let mut host = Host::of_the_figures();
     host.responses = vec![0b100, 0b1000, 0b100];
     tally.same("show", host.show(2), accepted(&[1, 0]));
-    tally.same("show", host.show(8), refused(8, 0, 4));
+    tally.same("show", host.show(8), refused(23, 0, 4));
     tally.same("not shown", host.answer(2, 5, 2, 1, 2), refused(11, 0, 2));
     let short = host.answer(2, 5, 2, 1, 1);
     tally.same("not shown and short", short, (10, vec![OLD]));
-    tally.same("x is f", host.answer(2, 2, 2, 1, 1), (8, vec![OLD]));
+    tally.same("x is f", host.answer(2, 2, 2, 1, 1), (24, vec![OLD]));
     tally.same("untouched", host.responses.clone(), vec![4, 8, 4]);
     tally.same("done", host.answer(2, 5, 0, 1, 2), accepted(&[]));
     tally.same("show", host.show(2), accepted(&[1, 2]));
@@ -211,13 +211,13 @@ fn whole_rounds(tally: &mut Tally) {
     let mut host = Host::new(8, &[0; 4]);
     host.responses = vec![1, 3, 0, 1];
     let before = host.responses.clone();
-    tally.same("bad round", host.round(0, 0, &[]), refused(8, 0, 4));
-    tally.same("bad round", host.round(0, 8, &[]), refused(8, 0, 4));
+    tally.same("bad round", host.round(0, 0, &[]), refused(24, 0, 4));
+    tally.same("bad round", host.round(0, 8, &[]), refused(23, 0, 4));
     tally.same("bad round", host.responses.clone(), before);
     tally.same("round", host.round(0, 7, &[2, 1, 1]), accepted(&[1, 2]));
     tally.same("round", host.responses.clone(), vec![0x80, 2, 0, 0x80]);
     tally.same("round", host.round(0, 7, &[]), accepted(&[0, 0]));
-    tally.same("no round", host.round(0, 9, &[]), refused(8, 0, 4));
+    tally.same("no round", host.round(0, 9, &[]), refused(23, 0, 4));
 }
 
 /// Resolution: the lowest selected word, or none.
@@ -232,11 +232,14 @@ fn resolutions(tally: &mut Tally) {
     tally.same("resolve", host.resolve(1, 1), twice(refused(3, 2, 4)));
 }
 
-/// What start, step and total turn down.
+/// What start, step and total turn down by what is lent to them. 25 is for a
+/// start while one is held, 22 zeros too; a step or a total while none is; a job
+/// of kind 0, as a job that ended leaves the record; a total after a step; c of
+/// an extreme.
 fn job_refusals(tally: &mut Tally) {
     let mut host = Host::of_the_figures();
     let offer = wish(1, 0, [[0, 4], [0, 0], [0, 0]], 0);
-    let held_lengths: [(usize, u32); 4] = [(0, 0), (22, 8), (21, 1), (23, 1)];
+    let held_lengths: [(usize, u32); 4] = [(0, 0), (22, 25), (21, 1), (23, 1)];
     for (length, number) in held_lengths {
         let told = host.start(&vec![0; length], &mut offer.clone());
         let expected = match number {
@@ -251,23 +254,27 @@ fn job_refusals(tally: &mut Tally) {
         tally.same("start", job, vec![1; length]);
     }
     let mut first = extreme(1, 0);
-    tally.same("no step", host.step(&mut []), refused(8, 0, STEP_ANSWER));
+    tally.same("no step", host.step(&mut []), refused(25, 0, STEP_ANSWER));
     tally.same(
         "short record",
         host.step(&mut first[..21]),
         refused(1, 0, STEP_ANSWER),
     );
-    tally.same("no total", host.total(&[]), refused(8, 0, 3));
+    tally.same("no total", host.total(&[]), refused(25, 0, 3));
     tally.same("short record", host.total(&first[..1]), refused(1, 0, 3));
-    tally.same("ended", host.step(&mut [0; 22]), refused(8, 0, STEP_ANSWER));
+    tally.same(
+        "ended",
+        host.step(&mut [0; 22]),
+        refused(25, 0, STEP_ANSWER),
+    );
     host.step(&mut first);
-    tally.same("total later", host.total(&first), refused(8, 0, 3));
+    tally.same("total later", host.total(&first), refused(25, 0, 3));
     let mut unused = extreme(1, 0);
     unused[21] = 1;
     tally.same(
         "unused field",
         host.step(&mut unused),
-        refused(8, 0, STEP_ANSWER),
+        refused(25, 0, STEP_ANSWER),
     );
 }
 

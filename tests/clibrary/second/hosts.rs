@@ -155,8 +155,9 @@ impl Host {
         })
     }
 
-    pub fn show(&self, x: u8) -> (u32, Vec<u64>) {
-        let mut answer = vec![OLD; 4];
+    /// Show with an answer's buffer of so many numbers.
+    pub fn show_into(&self, x: u8, room: usize) -> (u32, Vec<u64>) {
+        let mut answer = vec![OLD; room];
         let number = unsafe {
             second_show(
                 self.words.as_ptr(),
@@ -170,6 +171,10 @@ impl Host {
             )
         };
         (number, answer)
+    }
+
+    pub fn show(&self, x: u8) -> (u32, Vec<u64>) {
+        self.show_into(x, 4)
     }
 
     pub fn answer(
@@ -199,8 +204,9 @@ impl Host {
         (number, answer)
     }
 
-    pub fn round(&mut self, x: u8, f: u8, verdicts: &[u8]) -> (u32, Vec<u64>) {
-        let mut answer = vec![OLD; 4];
+    /// A whole round with an answer's buffer of so many numbers.
+    pub fn round_into(&mut self, x: u8, f: u8, verdicts: &[u8], room: usize) -> (u32, Vec<u64>) {
+        let mut answer = vec![OLD; room];
         let number = unsafe {
             second_round(
                 self.words.as_ptr(),
@@ -219,8 +225,13 @@ impl Host {
         (number, answer)
     }
 
-    pub fn start(&self, held: &[u8], job: &mut [u8]) -> (u32, Vec<u64>) {
-        let mut answer = vec![OLD; 3];
+    pub fn round(&mut self, x: u8, f: u8, verdicts: &[u8]) -> (u32, Vec<u64>) {
+        self.round_into(x, f, verdicts, 4)
+    }
+
+    /// A start with an answer's buffer of so many numbers.
+    pub fn start_into(&self, held: &[u8], job: &mut [u8], room: usize) -> (u32, Vec<u64>) {
+        let mut answer = vec![OLD; room];
         let number = unsafe {
             second_start(
                 self.words.as_ptr(),
@@ -237,6 +248,10 @@ impl Host {
             )
         };
         (number, answer)
+    }
+
+    pub fn start(&self, held: &[u8], job: &mut [u8]) -> (u32, Vec<u64>) {
+        self.start_into(held, job, 3)
     }
 
     /// A step with an answer's buffer of so many numbers.
@@ -262,8 +277,9 @@ impl Host {
         self.step_into(job, STEP_ANSWER)
     }
 
-    pub fn total(&self, job: &[u8]) -> (u32, Vec<u64>) {
-        let mut answer = vec![OLD; 3];
+    /// A total with an answer's buffer of so many numbers.
+    pub fn total_into(&self, job: &[u8], room: usize) -> (u32, Vec<u64>) {
+        let mut answer = vec![OLD; room];
         let number = unsafe {
             second_total(
                 self.words.as_ptr(),
@@ -280,8 +296,13 @@ impl Host {
         (number, answer)
     }
 
-    pub fn write(&self, job: &[u8], image: &mut [u8]) -> (u32, Vec<u64>) {
-        let mut answer = vec![OLD; 3];
+    pub fn total(&self, job: &[u8]) -> (u32, Vec<u64>) {
+        self.total_into(job, 3)
+    }
+
+    /// A writing with an answer's buffer of so many numbers.
+    pub fn write_into(&self, job: &[u8], image: &mut [u8], room: usize) -> (u32, Vec<u64>) {
+        let mut answer = vec![OLD; room];
         let number = unsafe {
             second_write(
                 self.words.as_ptr(),
@@ -298,6 +319,10 @@ impl Host {
             )
         };
         (number, answer)
+    }
+
+    pub fn write(&self, job: &[u8], image: &mut [u8]) -> (u32, Vec<u64>) {
+        self.write_into(job, image, 3)
     }
 
     pub fn read(&mut self, image: &[u8], job: &mut [u8]) -> (u32, Vec<u64>) {

@@ -1,6 +1,6 @@
 //! Images: a machine and its held job as bytes, written and read back.
 
-use crate::calls::{lowest, unless, Answer, Judged};
+use crate::calls::{first, unless, Answer, Judged};
 use crate::jobs::{bytes_of, held_of};
 use crate::lent::{machine_of, Lent, Open};
 use processor::image::{self, JOB_BYTES};
@@ -40,7 +40,7 @@ pub unsafe extern "C" fn second_write(
     let answer = Answer::new(answer, answer_length, WRITE_VALUES);
     let outcome = held_of(&job).and_then(|held| {
         let written = image::write(&machine, &held, image_length);
-        lowest(written, &[answer.room()])
+        first(written, &[answer.room()])
     });
     answer.tell(outcome.map(|bytes| {
         output.put(&bytes);
@@ -57,7 +57,7 @@ fn taken(
 ) -> Result<(Machine, Option<Job>), Refusal> {
     let (words, responses, record) = room_for;
     let read = image::read(&image.first(ENOUGH_BYTES), words, responses);
-    lowest(read, &[unless(record == JOB_BYTES, 1), room])
+    first(read, &[unless(record == JOB_BYTES, 1), room])
 }
 
 /// # Safety

@@ -1,6 +1,6 @@
 //! Jobs by their records: start, step and total.
 
-use crate::calls::{lowest, unless, Answer, Judged};
+use crate::calls::{first, unless, Answer, Judged};
 use crate::lent::{machine_of, Lent, Open};
 use crate::panels::{byte_of, numbers_of, REGISTERS};
 use processor::image::{job_of, put_job, JOB_BYTES};
@@ -41,7 +41,7 @@ pub fn bytes_of(held: &Option<Job>) -> Vec<u8> {
 }
 
 /// The job held after a start. Records of wrong lengths are 1, so nothing that
-/// is judged after them could be lower.
+/// is judged after them could come before it.
 fn started(
     machine: &Machine,
     held: &Lent<u8>,
@@ -50,7 +50,7 @@ fn started(
 ) -> Result<Option<Job>, Refusal> {
     let mut held = held_of(held)?;
     let offered = record_of(offered)?;
-    lowest(jobs::start(machine, &mut held, &offered), &[room])?;
+    first(jobs::start(machine, &mut held, &offered), &[room])?;
     Ok(held)
 }
 
@@ -90,7 +90,7 @@ fn stepped(
     room: Judged,
 ) -> Result<(Step, Option<Job>), Refusal> {
     let mut held = held_of(job)?;
-    let step = lowest(jobs::step(machine, &mut held), &[room])?;
+    let step = first(jobs::step(machine, &mut held), &[room])?;
     Ok((step, held))
 }
 
@@ -151,6 +151,6 @@ pub unsafe extern "C" fn second_total(
     let job = Lent::new(job, job_length);
     let answer = Answer::new(answer, answer_length, TOTAL_VALUES);
     let outcome =
-        held_of(&job).and_then(|held| lowest(jobs::total(&machine, &held), &[answer.room()]));
+        held_of(&job).and_then(|held| first(jobs::total(&machine, &held), &[answer.room()]));
     answer.tell(outcome.map(|pulses| vec![pulses]))
 }

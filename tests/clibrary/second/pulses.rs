@@ -1,6 +1,6 @@
 //! The two pulses, on the word-wide machine and on the plain one.
 
-use crate::calls::{lowest, Answer, Judged};
+use crate::calls::{first, Answer, Judged};
 use crate::lent::{machine_of, Lent, Open};
 use crate::panels::{bytes_fit, line_byte_fits, lines_of, panel_of, registers_of};
 use processor::cells::CELLS;
@@ -12,7 +12,7 @@ use processor::wide::WIDE;
 const VALUES: usize = 2;
 
 /// The pulse on a copy of the machine. A panel of a wrong length is 1, so
-/// nothing that is judged after it could be lower.
+/// nothing that is judged after it could come before it.
 fn pulsed(
     way: &Way,
     machine: &mut Machine,
@@ -23,7 +23,7 @@ fn pulsed(
     let registers = registers_of(panel)?;
     let added = [bytes_fit(&registers), line_byte_fits(lines), room];
     let given = pulse(way, machine, &panel_of(&registers), lines_of(lines));
-    lowest(given, &added)
+    first(given, &added)
 }
 
 /// One pulse of either machine on what was lent.

@@ -1,6 +1,6 @@
 //! Resolution, and the hand-out round: show, an answer, a whole round.
 
-use crate::calls::{lowest, Answer, Judged};
+use crate::calls::{first, Answer, Judged};
 use crate::lent::{machine_of, Lent, Open, ENOUGH};
 use processor::machine::{Machine, Refusal, MOST_BITS};
 use processor::resolve;
@@ -24,9 +24,9 @@ fn found_values(found: Option<usize>) -> Vec<u64> {
     }
 }
 
-/// Tells of a word found, or of the lowest refusal.
+/// Tells of a word found, or of the refusal that comes first.
 fn tell_found(found: Result<Option<usize>, Refusal>, answer: Answer) -> u32 {
-    answer.tell(lowest(found, &[answer.room()]).map(found_values))
+    answer.tell(first(found, &[answer.room()]).map(found_values))
 }
 
 /// # Safety
@@ -122,7 +122,7 @@ pub unsafe extern "C" fn second_answer(
     let answer = Answer::new(answer, answer_length, REPLY_VALUES);
     let mut machine = machine_of(&words, &responses.seen(), width);
     let given = round::answer(&mut machine, verdict_of(verdict), x, f, word as u64);
-    answer.tell(lowest(given, &[answer.room()]).map(|()| {
+    answer.tell(first(given, &[answer.room()]).map(|()| {
         responses.put(&machine.responses);
         Vec::new()
     }))
@@ -180,7 +180,7 @@ pub unsafe extern "C" fn second_round(
     let verdicts = Lent::new(verdicts, verdicts_length).first(ENOUGH);
     let answer = Answer::new(answer, answer_length, ROUND_VALUES);
     let mut machine = machine_of(&words, &responses.seen(), width);
-    let outcome = lowest(may_go_round(&mut machine, x, f), &[answer.room()])
+    let outcome = first(may_go_round(&mut machine, x, f), &[answer.room()])
         .and_then(|()| go_round(&mut machine, x, f, &verdicts));
     answer.tell(outcome.map(|values| {
         responses.put(&machine.responses);

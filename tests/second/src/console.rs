@@ -5,7 +5,7 @@ use crate::array::Array;
 use crate::cells::CELLS;
 use crate::choices::{Read, Search, Write};
 use crate::image;
-use crate::jobs::{self, Job, Span};
+use crate::jobs::{self, Job, Span, NAMES};
 use crate::line::Line;
 use crate::machine::{Machine, Refusal, MOST_WORDS};
 use crate::panel::{Lines, Panel};
@@ -341,11 +341,12 @@ fn ok() -> Option<Outcome> {
 }
 
 /// "A refusal prints `refused K`, for number 3 `refused 3 word I`, for number
-/// 9 `refused 9 at I`."
+/// 9 `refused 9 at I`." Request d: "20, 21 and 22 name their syllable".
 fn refusal_text(refusal: Refusal) -> String {
     match refusal.number {
         3 => format!("refused 3 word {}", refusal.also),
         9 => format!("refused 9 at {}", refusal.also),
+        number @ 20..=22 => format!("refused {number} {}", NAMES[refusal.also]),
         number => format!("refused {number}"),
     }
 }

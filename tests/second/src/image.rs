@@ -7,14 +7,12 @@ use crate::machine::{is_stray, refused, refused_at, Machine, Refusal, MOST_BITS,
 /// The bytes of a job's record.
 pub const JOB_BYTES: usize = 22;
 
-/// Writes the image into an output of `room` bytes. Checked for 1 to 3, 8 (of
-/// the held job, if any) and 10: "output shorter than the image".
+/// Writes the image into an output of `room` bytes. Checked for 1 to 3, 20 to 25
+/// (of the held job, if any) and 10: "output shorter than the image".
 pub fn write(machine: &Machine, held: &Option<Job>, room: usize) -> Result<Vec<u8>, Refusal> {
     machine.check()?;
     if let Some(job) = held {
-        if !job.is_sound(machine.width) {
-            return refused(8);
-        }
+        job.check(machine.width)?;
     }
     let bytes = compose(machine, held);
     if room < bytes.len() {
@@ -89,7 +87,8 @@ impl<'a> Fields<'a> {
         Ok(number)
     }
 
-    /// "Job, count 0 or 1, 22 bytes"; "a job is one field".
+    /// "Job, count 0 or 1, 22 bytes"; "a job is one field", and "a damaged job in
+    /// an image stays 9".
     fn job(&mut self, width: u8) -> Result<Option<Job>, Refusal> {
         if self.number(4, |count| count <= 1)? == 0 {
             return Ok(None);

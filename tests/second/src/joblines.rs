@@ -3,6 +3,7 @@
 
 use crate::values;
 use crate::writer::Writer;
+use crate::wrongs;
 use processor::jobs::Job;
 
 impl Writer {
@@ -10,8 +11,11 @@ impl Writer {
     pub fn wish(&mut self) -> Job {
         let width = self.width();
         let mut job = values::job(&mut self.rng, width);
-        if self.rng.once_in(4) {
-            values::spoil(&mut self.rng, &mut job, width);
+        match self.rng.below(8) {
+            0 => values::spoil(&mut self.rng, &mut job, width),
+            1 => values::spoil_used(&mut self.rng, &mut job, width),
+            2 => job = wrongs::offered(&mut self.rng, width, &job),
+            _ => {}
         }
         job
     }

@@ -1,7 +1,7 @@
-//! Jobs: their record, what number 8 judges of it, their commands, their
-//! places and their totals.
+//! Jobs: their record, what the numbers 20 to 25 judge of it, their commands,
+//! their places and their totals.
 
-use crate::machine::{bit, is_selected, one_at, ones, refused, Machine, Refusal};
+use crate::machine::{bit, is_selected, one_at, ones, refused, refused_at, Machine, Refusal};
 use crate::panel::{Lines, Panel};
 use crate::pulse::apply;
 use crate::syllable::Syllable;
@@ -17,6 +17,13 @@ pub const PRODUCT: u8 = 4;
 pub const OPENING: u8 = 0;
 pub const TRIAL: u8 = 1;
 pub const AFTER: u8 = 2;
+
+/// The names of a job's syllables, in the order in which 20 to 22 judge them: "A
+/// before B before P".
+pub const NAMES: [&str; 3] = ["A", "B", "P"];
+const A: usize = 0;
+const B: usize = 1;
+const P: usize = 2;
 
 /// A syllable as a record holds it: lowest bit and width, unchecked.
 #[derive(Clone, Copy, Debug, Default, PartialEq, Eq)]
@@ -55,9 +62,8 @@ pub struct Step {
 const NO_SPAN: Span = Span { low: 0, width: 0 };
 
 impl Span {
-    /// Not "a syllable of width 0 or beyond N".
-    fn fits(&self, width: u8) -> bool {
-        self.width > 0 && u32::from(self.low) + u32::from(self.width) <= u32::from(width)
+    fn is_beyond(&self, width: u8) -> bool {
+        u32::from(self.low) + u32::from(self.width) > u32::from(width)
     }
 
     fn syllable(&self) -> Syllable {
@@ -80,22 +86,91 @@ impl Job {
         self.kind == GREATEST || self.kind == SMALLEST
     }
 
-    /// Not "a response bit above 7", nor "a working bit in care".
-    fn may_work_with(&self, response_bit: u8) -> bool {
-        response_bit <= 7 && (self.care >> response_bit) & 1 == 0
+    /// The syllables that the job reads: B is used by products alone.
+    fn sources(&self) -> Vec<(usize, Span)> {
+        match self.kind {
+            PRODUCT => vec![(A, self.a), (B, self.b)],
+            _ => vec![(A, self.a)],
+        }
     }
 
-    /// The used fields that every call with a job judges. X is used by the
-    /// extremes alone, B by products, P by the two adding jobs.
-    pub fn fields_fit(&self, width: u8) -> bool {
-        let common = self.may_work_with(self.y) && self.a.fits(width);
-        let sum_fits = self.p.fits(width) && !self.p.overlaps(&self.a);
-        match self.kind {
-            GREATEST | SMALLEST => common && self.may_work_with(self.x) && self.x != self.y,
-            SCALED => common && sum_fits,
-            PRODUCT => common && sum_fits && self.b.fits(width) && !self.p.overlaps(&self.b),
-            _ => false,
+    /// All syllables that the job uses: P by the two adding jobs alone.
+    fn syllables(&self) -> Vec<(usize, Span)> {
+        let mut used = self.sources();
+        if !self.is_extreme() {
+            used.push((P, self.p));
         }
+        used
+    }
+
+    /// The response bits that the job uses: X by the extremes alone.
+    fn working_bits(&self) -> Vec<u8> {
+        if self.is_extreme() {
+            vec![self.x, self.y]
+        } else {
+            vec![self.y]
+        }
+    }
+
+    /// The used fields, which every call with a job judges, "lowest first"; but
+    /// "an unknown kind gets only 25", since it is not known what it uses.
+    fn check_used(&self, width: u8) -> Result<(), Refusal> {
+        if !(GREATEST..=PRODUCT).contains(&self.kind) {
+            return refused(25);
+        }
+        self.check_empty()?;
+        self.check_beyond(width)?;
+        self.check_result()?;
+        self.check_response_bits()?;
+        self.check_working_bits()
+    }
+
+    /// 20: "syllable empty".
+    fn check_empty(&self) -> Result<(), Refusal> {
+        for (name, span) in self.syllables() {
+            if span.width == 0 {
+                return refused_at(20, name);
+            }
+        }
+        Ok(())
+    }
+
+    /// 21: "syllable beyond the word".
+    fn check_beyond(&self, width: u8) -> Result<(), Refusal> {
+        for (name, span) in self.syllables() {
+            if span.is_beyond(width) {
+                return refused_at(21, name);
+            }
+        }
+        Ok(())
+    }
+
+    /// 22: "result overlaps a source", which is the one named.
+    fn check_result(&self) -> Result<(), Refusal> {
+        for (name, source) in self.sources() {
+            if !self.is_extreme() && self.p.overlaps(&source) {
+                return refused_at(22, name);
+            }
+        }
+        Ok(())
+    }
+
+    /// 23: "response bit above 7".
+    fn check_response_bits(&self) -> Result<(), Refusal> {
+        if self.working_bits().iter().any(|place| *place > 7) {
+            return refused(23);
+        }
+        Ok(())
+    }
+
+    /// 24: "working bits clash or stand in care"; after 23 they are bits of care.
+    fn check_working_bits(&self) -> Result<(), Refusal> {
+        let clash = self.is_extreme() && self.x == self.y;
+        let in_care = |place: &u8| (self.care >> place) & 1 == 1;
+        if clash || self.working_bits().iter().any(in_care) {
+            return refused(24);
+        }
+        Ok(())
     }
 
     /// Whether the place is one of the job's table.
@@ -166,9 +241,18 @@ impl Job {
         job
     }
 
-    /// All that number 8 judges of a job after its start.
+    /// All that 20 to 25 judge of a job after its start: its used fields, then 25,
+    /// "unknown kind or place, unused field not 0".
+    pub fn check(&self, width: u8) -> Result<(), Refusal> {
+        self.check_used(width)?;
+        if !self.place_fits() || *self != self.with_unused_zero() {
+            return refused(25);
+        }
+        Ok(())
+    }
+
     pub fn is_sound(&self, width: u8) -> bool {
-        self.fields_fit(width) && self.place_fits() && *self == self.with_unused_zero()
+        self.check(width).is_ok()
     }
 
     /// A's or B's or P's bit number `place` within the word.
@@ -333,22 +417,24 @@ impl Job {
 }
 
 /// Starts a job: "sets its first place, and its unused fields to 0". Checked
-/// for 1 to 3 and 8; of the record 8 judges the used fields alone.
+/// for 1 to 3 and 20 to 25. It "judges the job offered", of which it looks at the
+/// used fields alone, and then 25: "start while one is held".
 pub fn start(machine: &Machine, held: &mut Option<Job>, wish: &Job) -> Result<(), Refusal> {
     machine.check()?;
-    if held.is_some() || !wish.fields_fit(machine.width) {
-        return refused(8);
+    wish.check_used(machine.width)?;
+    if held.is_some() {
+        return refused(25);
     }
     *held = Some(wish.with_unused_zero().at_first_place());
     Ok(())
 }
 
-/// The held job, if it is one a step may take.
+/// The held job, if it is one a step may take. 25: "step while none is".
 fn held_job(machine: &Machine, held: &Option<Job>) -> Result<Job, Refusal> {
     machine.check()?;
     match held {
-        Some(job) if job.is_sound(machine.width) => Ok(*job),
-        _ => refused(8),
+        Some(job) => job.check(machine.width).map(|()| *job),
+        None => refused(25),
     }
 }
 
@@ -367,11 +453,12 @@ pub fn step(machine: &mut Machine, held: &mut Option<Job>) -> Result<Step, Refus
     })
 }
 
-/// The pulses of a job that stands at its first place, without running it.
+/// The pulses of a job that stands at its first place, without running it; at
+/// another place 25.
 pub fn total(machine: &Machine, held: &Option<Job>) -> Result<u64, Refusal> {
     let job = held_job(machine, held)?;
     if job != job.at_first_place() {
-        return refused(8);
+        return refused(25);
     }
     Ok(match job.kind {
         SCALED => 2 * u64::from(job.a.width.min(job.p.width)),

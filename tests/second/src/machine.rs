@@ -2,7 +2,8 @@
 //! 1 to 3 that every call but the reading of an image checks first.
 
 /// The number given when a call is turned down, and what it also answers: the
-/// lowest wrong word for number 3, the place for number 9, else 0.
+/// lowest wrong word for number 3, the place for number 9, the syllable for the
+/// numbers 20 to 22 (A, B and P as 0, 1 and 2), else 0.
 #[derive(Clone, Copy, Debug, PartialEq, Eq)]
 pub struct Refusal {
     pub number: u8,
@@ -14,7 +15,7 @@ pub fn refused<T>(number: u8) -> Result<T, Refusal> {
     Err(Refusal { number, also: 0 })
 }
 
-/// A refusal that also answers a word or a place.
+/// A refusal that also answers a word, a place or a syllable.
 pub fn refused_at<T>(number: u8, also: usize) -> Result<T, Refusal> {
     Err(Refusal { number, also })
 }

@@ -10,11 +10,11 @@ pub enum Verdict {
 }
 
 /// "Show answers the lowest word with response bit X, or none; it changes
-/// nothing." Checked for 1 to 3 and 8, which "judges X".
+/// nothing." Checked for 1 to 3 and 23, of which it "judges X".
 pub fn show(machine: &Machine, x: u8) -> Result<Option<usize>, Refusal> {
     machine.check()?;
     if x > 7 {
-        return refused(8);
+        return refused(23);
     }
     Ok(next_word(machine, x))
 }
@@ -25,7 +25,7 @@ fn next_word(machine: &Machine, x: u8) -> Option<usize> {
 }
 
 /// "Done" clears the shown word's X; "faulty" clears its X and sets its F.
-/// Checked for 1 to 3, 8 ("an answer X and F") and 11.
+/// Checked for 1 to 3, 23 and 24 ("an answer X and F"), and 11.
 pub fn answer(
     machine: &mut Machine,
     verdict: Verdict,
@@ -34,8 +34,11 @@ pub fn answer(
     word: u64,
 ) -> Result<(), Refusal> {
     machine.check()?;
-    if x > 7 || f > 7 || x == f {
-        return refused(8);
+    if x > 7 || f > 7 {
+        return refused(23);
+    }
+    if x == f {
+        return refused(24);
     }
     // 11: "answer for a word other than the one show would give now".
     let index = match next_word(machine, x) {

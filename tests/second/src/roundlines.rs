@@ -96,12 +96,16 @@ impl Writer {
         let word = shown.strip_prefix("word ").unwrap_or("0").to_string();
         let verdict = self.rng.pick(&["done", "faulty"]);
         let wrong = self.address();
-        match self.rng.below(16) {
+        match self.rng.below(20) {
             0 => drop(self.say(format!("{verdict} {x} {f} {wrong}"))),
             1 => drop(self.say(format!("{verdict} {x} {x} {word}"))),
             2 => drop(self.say(format!("{verdict} {f} {x} {word}"))),
             3 => drop(self.say(format!("{verdict} {x} 8 {word}"))),
             4 => drop(self.say(format!("{verdict} {x} {f} 18446744073709551615"))),
+            5 => drop(self.say(format!("{verdict} {x} {x} {wrong}"))),
+            6 => drop(self.say(format!("{verdict} {x} 255 {wrong}"))),
+            7 => drop(self.say(format!("{verdict} 8 8 {word}"))),
+            8 => drop(self.say(format!("{verdict} 8 {f} {word}"))),
             _ => {}
         }
         self.say(format!("{verdict} {x} {f} {word}"));

@@ -15,7 +15,7 @@ impl Writer {
     /// One scene, after what may be out of order has been set right.
     pub fn scene(&mut self) {
         self.heal();
-        match self.rng.below(136) {
+        match self.rng.below(149) {
             0..=6 => self.new_machine(),
             7..=10 => self.fill(),
             11..=24 => self.some_pulses(),
@@ -39,6 +39,9 @@ impl Writer {
             100..=106 => self.search_at_its_edge(),
             107..=110 => self.every_way(),
             111..=113 => self.wrong_search(),
+            114..=118 => self.wrong_alone(),
+            119..=122 => self.wrong_twice(),
+            123..=124 => self.wrong_on_wrong(),
             _ => self.array_scene(),
         }
     }
@@ -89,6 +92,10 @@ impl Writer {
             self.say(format!("resume {}", digits(&compose(&machine, &None))));
         } else {
             self.fill();
+        }
+        // A large machine is soon left for another, so it is used at once.
+        if n > 100 {
+            self.some_pulses();
         }
     }
 

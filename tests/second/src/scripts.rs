@@ -15,6 +15,8 @@ mod searchlines;
 pub mod tally;
 mod values;
 mod writer;
+mod wronglines;
+mod wrongs;
 
 pub use changes::image_script;
 use writer::Writer;

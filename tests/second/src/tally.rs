@@ -12,6 +12,9 @@ mod arrayfacts;
 mod arrayneeds;
 mod comparing;
 mod facts;
+mod jobfacts;
+mod jobneeds;
+pub mod jobreasons;
 mod meetings;
 mod needed;
 mod reasons;
@@ -98,6 +101,10 @@ impl Tally {
         let name = String::from_utf8_lossy(words.first().unwrap_or(&&b""[..])).into_owned();
         match head.as_slice() {
             ["bad", ..] => self.count("line: bad"),
+            ["refused", "20" | "21" | "22", _] => {
+                self.count(answer);
+                self.count(format!("{name}: {answer}"));
+            }
             ["refused", number, ..] => {
                 self.count(format!("refused {number}"));
                 self.count(format!("{name}: refused {number}"));

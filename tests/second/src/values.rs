@@ -241,8 +241,13 @@ fn spans(rng: &mut Rng, width: u8) -> (Span, Span, Span) {
 /// A job that can be started on a machine of this width (but for adds at width
 /// 1); its unused fields are left to chance.
 pub fn job(rng: &mut Rng, width: u8) -> Job {
-    let width = width.clamp(1, 64);
     let kind = rng.between(1, 4) as u8;
+    job_of(rng, width, kind)
+}
+
+/// The same of a chosen kind.
+pub fn job_of(rng: &mut Rng, width: u8, kind: u8) -> Job {
+    let width = width.clamp(1, 64);
     let x = rng.below(8) as u8;
     let y = (x + rng.between(1, 7) as u8) % 8;
     let (mut a, b, p) = spans(rng, width);
@@ -264,7 +269,7 @@ pub fn job(rng: &mut Rng, width: u8) -> Job {
 }
 
 /// One bit of a syllable, its lowest or its highest.
-fn within(rng: &mut Rng, span: Span) -> Span {
+pub fn within(rng: &mut Rng, span: Span) -> Span {
     let highest = span.low.wrapping_add(span.width).wrapping_sub(1);
     Span {
         low: rng.pick(&[span.low, highest]),
@@ -296,8 +301,43 @@ pub fn spoil(rng: &mut Rng, job: &mut Job, width: u8) {
     }
 }
 
-/// The fields a kind doesn't use as 0, now and then but for one.
-fn clear_unused(rng: &mut Rng, job: &mut Job) {
+/// One of the syllables that the job's kind uses; B often, which products alone do.
+fn used_span<'a>(rng: &mut Rng, job: &'a mut Job) -> &'a mut Span {
+    let which = match job.kind {
+        PRODUCT => rng.pick(&["A", "B", "B", "P"]),
+        SCALED => rng.pick(&["A", "P"]),
+        _ => "A",
+    };
+    match which {
+        "A" => &mut job.a,
+        "B" => &mut job.b,
+        _ => &mut job.p,
+    }
+}
+
+/// The same job with something in a used field that one of the numbers 20 to 24 is
+/// given for.
+pub fn spoil_used(rng: &mut Rng, job: &mut Job, width: u8) {
+    let extreme = job.kind < SCALED;
+    match rng.below(8) {
+        0 | 1 => used_span(rng, job).width = 0,
+        2 | 3 => {
+            let span = used_span(rng, job);
+            let beyond = width.wrapping_sub(span.width).wrapping_add(1);
+            span.low = rng.pick(&[beyond, beyond, 255]);
+        }
+        4 if !extreme => job.a = within(rng, job.p),
+        5 if job.kind == PRODUCT => job.b = within(rng, job.p),
+        4 if rng.once_in(2) => job.x = rng.pick(&[8, 255]),
+        4 => job.care |= 1 << (job.x % 8),
+        5 if extreme => job.y = job.x,
+        6 => job.y = rng.pick(&[8, 255]),
+        _ => job.care |= 1 << (job.y % 8),
+    }
+}
+
+/// The fields a kind doesn't use as 0.
+pub fn clear_unused(job: &mut Job) {
     let none = Span::default();
     if job.kind < SCALED {
         job.b = none;
@@ -310,18 +350,20 @@ fn clear_unused(rng: &mut Rng, job: &mut Job) {
     } else {
         job.c = 0;
     }
-    if rng.once_in(8) {
-        match rng.below(4) {
-            0 => job.c |= 1 << 63,
-            1 => job.b.low = 1,
-            2 => job.p.width = 1,
-            _ => job.x = job.x.wrapping_add(1),
-        }
+}
+
+/// One of the fields that some kinds don't use, not 0.
+fn spoil_unused(rng: &mut Rng, job: &mut Job) {
+    match rng.below(4) {
+        0 => job.c |= 1 << 63,
+        1 => job.b.low = 1,
+        2 => job.p.width = 1,
+        _ => job.x = job.x.wrapping_add(1),
     }
 }
 
 /// A place for a job, most often one of its table, at its edges too.
-fn put_place(rng: &mut Rng, job: &mut Job) {
+pub fn put_place(rng: &mut Rng, job: &mut Job) {
     let extreme = job.kind < SCALED;
     job.phase = rng.between(1, 2) as u8;
     let places = if extreme {
@@ -335,14 +377,20 @@ fn put_place(rng: &mut Rng, job: &mut Job) {
         job.j = below_or_edge(rng, rest.min(job.b.width));
     }
     if rng.once_in(4) {
-        job.phase = if extreme { 0 } else { 1 };
-        job.i = if extreme {
-            job.a.width.wrapping_sub(1)
-        } else {
-            0
-        };
-        job.j = 0;
+        put_first_place(job);
     }
+}
+
+/// The place at which a job starts.
+pub fn put_first_place(job: &mut Job) {
+    let extreme = job.kind < SCALED;
+    job.phase = if extreme { 0 } else { 1 };
+    job.i = if extreme {
+        job.a.width.wrapping_sub(1)
+    } else {
+        0
+    };
+    job.j = 0;
 }
 
 /// A number below a bound, often the least or the greatest such.
@@ -370,7 +418,10 @@ fn spoil_place(rng: &mut Rng, job: &mut Job) {
 /// A job's whole record, most often one that may be stepped.
 pub fn record(rng: &mut Rng, width: u8) -> Job {
     let mut job = job(rng, width);
-    clear_unused(rng, &mut job);
+    clear_unused(&mut job);
+    if rng.once_in(8) {
+        spoil_unused(rng, &mut job);
+    }
     put_place(rng, &mut job);
     if rng.once_in(4) {
         spoil_place(rng, &mut job);

@@ -1,4 +1,4 @@
--- 1 to 3 and 8, then 11: the word is compared with the one that show would give now.
+-- 1 to 3, 23 and 24, then 11: the word is compared with the one that show would give now.
 use mathlib.Core.Path.{ap, _∙_}
 use borrow.Author.Needs.{needs}
 use Rattle.machine.specs.declared.Refusal.the-variants.{NotShown}

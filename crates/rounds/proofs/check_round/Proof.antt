@@ -1,4 +1,4 @@
--- 1 to 3, then 8 of X and F.
+-- 1 to 3, then 23 and 24 of X and F.
 use borrow.Author.Needs.{needs}
 use Rattle.rounds.specs.Round.{roundCheck}
 use Rattle.rounds.proofs.Passing.{composed}

@@ -1,4 +1,4 @@
--- 1 to 3, then 8 of X.
+-- 1 to 3, then 23 of X.
 use borrow.Author.Needs.{needs}
 use Rattle.rounds.specs.Round.{showCheck}
 use Rattle.rounds.proofs.Passing.{composed}

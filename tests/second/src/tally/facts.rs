@@ -1,10 +1,10 @@
 //! What stands before one command and what comes of it.
 
-use super::reasons::{code_reasons, pulse_numbers, record_reasons, used_reasons};
+use super::jobreasons::Reason;
+use super::reasons::{code_reasons, pulse_numbers};
 use processor::choices::COMMANDS;
 use processor::console::Console;
 use processor::image;
-use processor::jobs::{Job, Span, PRODUCT, SCALED};
 use processor::machine::{is_selected, Machine, MOST_WORDS};
 use processor::panel::Lines;
 use processor::syllable::{code_at, code_of, syllables, Code};
@@ -15,8 +15,15 @@ pub struct Facts {
     pub found: Vec<String>,
     held_back: Vec<String>,
     selected: usize,
-    reasons: Vec<&'static str>,
-    kind_and_phase: Option<(u8, u8)>,
+    /// What the numbers 1 to 3 and 20 to 25, 10 and 11 have against the call.
+    pub machine_numbers: Vec<u8>,
+    pub reasons: Vec<Reason>,
+    /// The job that is judged: its kind, and an unknown kind's if it were another.
+    pub kind: Option<u8>,
+    pub as_another: Option<&'static str>,
+    /// The numbers of the job held at a start.
+    pub held: Option<Vec<&'static str>>,
+    pub kind_and_phase: Option<(u8, u8)>,
 }
 
 impl Facts {
@@ -24,9 +31,12 @@ impl Facts {
         match words {
             [b"pulse" | b"cells", names @ ..] => self.before_pulse(console, words[0], names),
             [b"start", fields @ ..] => self.before_start(console, fields),
-            [b"step" | b"run" | b"total" | b"store"] => self.before_held(console),
+            [name @ (b"step" | b"run" | b"total" | b"store" | b"list")] => {
+                self.before_held(console, name);
+            }
+            [b"show", x] => self.before_show(console, x),
             [b"done" | b"faulty", x, f, word] => self.before_answer(console, x, f, word),
-            [b"room", _] => self.before_held(console),
+            [b"room", size] => self.before_room(console, size),
             [b"fit", room, other, digits] => self.before_fit(room, other, digits),
             [b"search3" | b"read3" | b"write3", ..] => self.before_operation(&console.array, words),
             _ => {}
@@ -44,9 +54,7 @@ impl Facts {
             self.found.append(&mut self.held_back);
         }
         let name = String::from_utf8_lossy(words.first().unwrap_or(&&b""[..])).into_owned();
-        if answer == "refused 8" && self.reasons.len() == 1 {
-            self.found.push(format!("8 at {name}: {}", self.reasons[0]));
-        }
+        self.after_judged(&name, answer);
         match words {
             [b"pulse" | b"cells", names @ ..] if accepted && names.contains(&&b"search"[..]) => {
                 self.after_search(answer);
@@ -246,54 +254,6 @@ impl Facts {
             .push(format!("search: {share} of the selected match"));
     }
 
-    fn before_start(&mut self, console: &Console, fields: &[&[u8]]) {
-        let mut scratch = Console::new();
-        let line = [&[&b"job"[..]], fields, &[]].concat();
-        let job = match record(&mut scratch, line) {
-            Some(job) => job,
-            None => return,
-        };
-        let width = console.machine.width;
-        self.reasons = used_reasons(&job, width);
-        if console.job.is_some() {
-            self.reasons.push("a job is held");
-        }
-        self.held_back.push(format!("start: kind {}", job.kind));
-        if job.kind == SCALED || job.kind == PRODUCT {
-            self.held_back.push(format!(
-                "start: kind {} P {}",
-                job.kind,
-                beside(job.p, job.a)
-            ));
-            if job.p.width < job.a.width {
-                self.held_back
-                    .push(format!("start: kind {} P narrower than A", job.kind));
-            }
-        }
-        if job.kind == PRODUCT {
-            self.held_back
-                .push(format!("start: A and B {}", relation(job.a, job.b)));
-        }
-        if job.a.width == 64 || job.p.width == 63 {
-            self.held_back
-                .push("start: the widest syllable".to_string());
-        }
-        let selected = selected_of(&console.machine, job.key, job.care);
-        let share = share_of(selected, console.machine.words.len());
-        self.held_back
-            .push(format!("start: kind {} with {share} selected", job.kind));
-    }
-
-    fn before_held(&mut self, console: &Console) {
-        match &console.job {
-            Some(job) => {
-                self.reasons = record_reasons(job, console.machine.width);
-                self.kind_and_phase = Some((job.kind, job.phase));
-            }
-            None => self.reasons.push("no job is held"),
-        }
-    }
-
     fn after_step(&mut self, answer: &str) {
         let (kind, phase) = match self.kind_and_phase {
             Some(both) => both,
@@ -312,47 +272,6 @@ impl Facts {
         if let Some((kind, phase)) = self.kind_and_phase {
             self.found
                 .push(format!("{name}: kind {kind} phase {phase}"));
-        }
-    }
-
-    fn before_answer(&mut self, console: &Console, x: &[u8], f: &[u8], word: &[u8]) {
-        let number = |word: &[u8]| std::str::from_utf8(word).ok()?.parse::<u64>().ok();
-        let (x, f, word) = match (number(x), number(f), number(word)) {
-            (Some(x), Some(f), Some(word)) => (x, f, word),
-            _ => return,
-        };
-        if x > 7 {
-            self.reasons.push("X above 7");
-        }
-        if f > 7 {
-            self.reasons.push("F above 7");
-        }
-        if x == f {
-            self.reasons.push("X equal to F");
-        }
-        let shown = console
-            .machine
-            .responses
-            .iter()
-            .position(|r| x < 8 && (r >> x) & 1 == 1);
-        if !self.reasons.is_empty() && shown.map(|at| at as u64) != Some(word) {
-            self.found.push("numbers 8 and 11 at once".to_string());
-        }
-        match shown {
-            None => self
-                .found
-                .push("answer: when none would be shown".to_string()),
-            Some(at) if (at as u64) < word => {
-                self.found.push("answer: for a later word".to_string())
-            }
-            Some(at) if (at as u64) > word => {
-                self.found.push("answer: for an earlier word".to_string())
-            }
-            _ => {}
-        }
-        if console.job.is_some() {
-            self.held_back
-                .push("answer: while a job is held".to_string());
         }
     }
 
@@ -450,15 +369,6 @@ fn bytes_of(digits: &[u8]) -> Vec<u8> {
     crate::writer::undigits(&String::from_utf8_lossy(digits))
 }
 
-/// The record that a start's fields stand for, at no place.
-fn record(scratch: &mut Console, mut line: Vec<&[u8]>) -> Option<Job> {
-    let c = line.pop()?;
-    line.extend([&b"0"[..], b"0", b"0", c]);
-    let text = line.join(&b' ');
-    scratch.answer(&processor::line::Line::of(&text));
-    scratch.job
-}
-
 /// The lines of a pulse, if the line is not a bad one.
 fn lines_of(names: &[&[u8]]) -> Option<Lines> {
     let mut lines = Lines::default();
@@ -481,7 +391,7 @@ fn raised(mut lines: Lines) -> String {
     up.copied().collect::<Vec<_>>().join("+")
 }
 
-fn selected_of(machine: &Machine, key: u8, care: u8) -> usize {
+pub fn selected_of(machine: &Machine, key: u8, care: u8) -> usize {
     let responses = machine.responses.iter();
     responses
         .filter(|response| is_selected(**response, key, care))
@@ -493,26 +403,5 @@ pub fn share_of(count: usize, all: usize) -> &'static str {
         0 => "none",
         _ if count == all => "all",
         _ => "some",
-    }
-}
-
-/// Whether P stands next to A with no bit between.
-fn beside(p: Span, a: Span) -> &'static str {
-    let ends = |span: Span| u32::from(span.low) + u32::from(span.width);
-    if ends(p) == u32::from(a.low) || ends(a) == u32::from(p.low) {
-        "touching A"
-    } else {
-        "apart from A"
-    }
-}
-
-fn relation(a: Span, b: Span) -> &'static str {
-    let ends = |span: Span| u32::from(span.low) + u32::from(span.width);
-    if a == b {
-        "equal"
-    } else if ends(a) <= u32::from(b.low) || ends(b) <= u32::from(a.low) {
-        "apart"
-    } else {
-        "overlapping"
     }
 }

@@ -12,14 +12,15 @@ pub const OFTEN: u64 = 100;
 const REGULARLY: u64 = 50;
 pub const SOMETIMES: u64 = 5;
 
-/// The numbers that each command can be turned down for.
-const REFUSALS: [(&[&str], &[u8]); 9] = [
+/// The numbers that each command can be turned down for, but for those of a job.
+const REFUSALS: [(&[&str], &[u8]); 10] = [
     (&["pulse", "cells"], &[1, 2, 3, 4, 5, 6, 7]),
     (&["resolve", "tree"], &[1, 2, 3]),
-    (&["start", "step", "run", "total", "show"], &[1, 2, 3, 8]),
-    (&["done", "faulty"], &[1, 2, 3, 8, 11]),
-    (&["store", "list"], &[1, 2, 3, 8]),
-    (&["room"], &[1, 2, 3, 8, 10]),
+    (&["start", "step", "run", "total"], &[1, 2, 3]),
+    (&["show"], &[1, 2, 3, 23]),
+    (&["done", "faulty"], &[1, 2, 3, 23, 24, 11]),
+    (&["store", "list"], &[1, 2, 3]),
+    (&["room"], &[1, 2, 3, 10]),
     (&["resume"], &[9]),
     (&["fit"], &[9, 10]),
     (&["search3", "read3", "write3"], &[1, 2, 3, 4, 12]),
@@ -79,7 +80,7 @@ const NAMED: [&str; 44] = [
     "line: with 17 digits",
 ];
 
-const RARER: [&str; 22] = [
+const RARER: [&str; 23] = [
     "line: of 20,000 bytes",
     "line: with a carriage return",
     "line: with a byte above 7F",
@@ -100,43 +101,9 @@ const RARER: [&str; 22] = [
     "stray: sc2 alone",
     "stray: sc3 alone",
     "stray: mor alone",
-    "numbers 8 and 11 at once",
+    "numbers 23 and 11 at once",
+    "numbers 24 and 11 at once",
     "numbers 9 and 10 at once",
-];
-
-/// The reasons for number 8 that a start can have, each the only one.
-const START_REASONS: [&str; 15] = [
-    "a kind not in the table",
-    "A of width 0",
-    "A beyond N",
-    "P of width 0",
-    "P beyond N",
-    "P overlapping A",
-    "B of width 0",
-    "B beyond N",
-    "P overlapping B",
-    "Y above 7",
-    "X above 7",
-    "X equal to Y",
-    "Y in care",
-    "X in care",
-    "a job is held",
-];
-
-/// Those that a step has beside them.
-const STEP_REASONS: [&str; 12] = [
-    "no job is held",
-    "a phase above 2",
-    "phase 0 of an adding job",
-    "phase 0 not at the top",
-    "i not in the table",
-    "j not 0",
-    "j not in the table",
-    "i+j not in the table",
-    "an unused X",
-    "an unused B",
-    "an unused P",
-    "an unused c",
 ];
 
 /// The parts of an image where it can be malformed.
@@ -167,7 +134,8 @@ impl Needs {
         self.0.push((name.into(), least));
     }
 
-    /// Every command taken, and turned down for each number it can be.
+    /// Every command taken, and turned down for each number it can be but for
+    /// those of a job.
     fn commands(&mut self) {
         for (names, numbers) in REFUSALS {
             for name in names {
@@ -306,16 +274,6 @@ impl Needs {
                 self.add(SOMETIMES, format!("start: kind {kind} P narrower than A"));
             }
         }
-        for reason in START_REASONS {
-            self.add(SOMETIMES, format!("8 at start: {reason}"));
-        }
-        for reason in STEP_REASONS {
-            self.add(SOMETIMES, format!("8 at step: {reason}"));
-        }
-        for reason in ["X above 7", "F above 7", "X equal to F"] {
-            self.add(SOMETIMES, format!("8 at done: {reason}"));
-            self.add(SOMETIMES, format!("8 at faulty: {reason}"));
-        }
     }
 
     fn images(&mut self) {
@@ -335,6 +293,7 @@ pub fn needed() -> Vec<(String, u64)> {
     needs.comparing();
     needs.wrong_codes();
     needs.jobs();
+    needs.wrong_jobs();
     needs.images();
     needs.array();
     for name in NAMED {

@@ -1,11 +1,10 @@
--- The definition's checks, one by one in its order.
-use Rattle.job_plans.specs.Fields.{scaledAddCheck}
+-- The definition's checks, number by number.
+use Rattle.job_plans.proofs.Grouped.{scaled-add}
 use borrow.Author.Needs.{needs}
 use Rattle.job_plans.proofs.fields.check_scaled_add.Statement.{statement}
 use Rattle.job_plans.proofs.fields.check_scaled_add.Tie as tie
 
 returns : tie.Need-returns
-unfolding scaledAddCheck
 returns c =
     let c1 = c .before in
     let c2 = c1 .before in
@@ -19,7 +18,7 @@ returns c =
     let c10 = c9 .before in
     let c11 = c10 .before in
     let c12 = c11 .before in
-    rw (c .in-order6 .ensures, c1 .in-order5 .ensures, c2 .in-order4 .ensures, c3 .in-order3 .ensures, c4 .in-order2 .ensures, c5 .in-order .ensures, c6 .check-care .ensures, c7 .check-bit .ensures, c8 .check-overlap .ensures, c9 .check-beyond2 .ensures, c10 .check-beyond .ensures, c11 .check-empty2 .ensures, c12 .check-empty .ensures)
+    rw (c .in-order6 .ensures, c1 .in-order5 .ensures, c2 .in-order4 .ensures, c3 .in-order3 .ensures, c4 .check-care .ensures, c5 .check-bit .ensures, c6 .check-overlap .ensures, c7 .in-order2 .ensures, c8 .check-beyond2 .ensures, c9 .check-beyond .ensures, c10 .in-order .ensures, c11 .check-empty2 .ensures, c12 .check-empty .ensures) (scaled-add (c12 .before .args .n) (c12 .before .args .o))
 
 pub check-scaled-add-spec : {M : Type 1} → statement M
 check-scaled-add-spec =
