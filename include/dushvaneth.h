@@ -51,7 +51,7 @@ enum dushvaneth_number {
     DUSHVANETH_REFUSED_TWO_CODES = 5,
     /* No line is raised, three or more are, or complement is raised with another. Also: bit 7 of the line byte. */
     DUSHVANETH_REFUSED_WRONG_LINES = 6,
-    /* Read, write or add is raised, and the address is the number of words or more. */
+    /* Read, write or add is raised, and the address is the number of words or more; or the word asked about is. */
     DUSHVANETH_REFUSED_NO_SUCH_WORD = 7,
     /* A syllable that the job uses has width 0. The answer also says the syllable: enum dushvaneth_syllable. */
     DUSHVANETH_REFUSED_EMPTY_SYLLABLE = 20,
@@ -153,6 +153,31 @@ uint32_t dushvaneth_wide_pulse(uint64_t *words, size_t words_length, dushvaneth_
 uint32_t dushvaneth_cells_pulse(uint64_t *words, size_t words_length, dushvaneth_response *responses, size_t responses_length,
                                 uint32_t width, const uint64_t *panel, size_t panel_length, uint8_t lines, uint64_t *answer,
                                 size_t answer_length);
+
+/* ---- the explainer: why a word is picked by a search under the panel, or why it is not */
+
+/* Which answer was given. A syllable is told by the number of its top bit, and is judged from there down: */
+enum dushvaneth_reason {
+    DUSHVANETH_MATCHED = 1,            /* the search matches the word */
+    DUSHVANETH_NOT_SELECTED = 2,       /* the word is not selected; the bit is the lowest response bit that differs from the key, of those
+                                        * that care has */
+    DUSHVANETH_AGAINST = 3,            /* the word is selected; the syllable is the topmost that is not satisfied, the bit that at which it
+                                        * was settled against: the first, from the top, at which word and COMP differ, don't-care bits aside */
+    DUSHVANETH_EQUAL_TO_THE_BOTTOM = 4 /* the word is selected; the syllable is the topmost that is not satisfied: it asks for larger or
+                                        * smaller, without SC3, and found no difference */
+};
+
+#define DUSHVANETH_EXPLAINED_REASON 2   /* enum dushvaneth_reason */
+#define DUSHVANETH_EXPLAINED_SYLLABLE 3 /* the syllable's top bit, 0 where none is told */
+#define DUSHVANETH_EXPLAINED_BIT 4      /* the response bit, or the word's bit, 0 where none is told */
+#define DUSHVANETH_EXPLAINED_ANSWER 5   /* how many numbers the answer has */
+
+/* Says of one word why a search under the panel picks it, or why it does not. Changes nothing. The panel's address, target and MOR play no
+ * part, but target and MOR are judged for 4, as in a search. Answers the reason, and the syllable and the bit that go with it. Returns 1 to
+ * 5 as for a search, 7 if the word's number is the number of words or more, 10. */
+uint32_t dushvaneth_explain(const uint64_t *words, size_t words_length, const dushvaneth_response *responses,
+                            size_t responses_length, uint32_t width, const uint64_t *panel, size_t panel_length, size_t word,
+                            uint64_t *answer, size_t answer_length);
 
 /* ---- resolution: which word is the lowest one */
 

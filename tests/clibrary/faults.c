@@ -63,6 +63,137 @@ static uint32_t faulty_cells_pulse(uint64_t *words, size_t n, dushvaneth_respons
     return dushvaneth_cells_pulse(words, n, responses, m, width, panel, p, lines, answer, a);
 }
 
+/* The syllable with that top bit. */
+static uint64_t syllable_at(const uint64_t *panel, uint64_t top)
+{
+    uint64_t below = panel[DUSHVANETH_SDR] & (((uint64_t)1 << top) - 1), bits = UINT64_MAX >> (63 - top);
+    return below == 0 ? bits : bits & ~(UINT64_MAX >> __builtin_clzll(below));
+}
+
+/* 25: the lowest syllable that is not satisfied is told, not the topmost: the one told is taken out of the search, and the library asked again,
+ * until none is left. */
+static void tell_lowest_syllable(const uint64_t *words, size_t n, const dushvaneth_response *responses, size_t m, uint32_t width,
+                                 const uint64_t *panel, size_t word, uint64_t *answer)
+{
+    uint64_t moved[DUSHVANETH_PANEL], next[DUSHVANETH_EXPLAINED_ANSWER];
+    memcpy(moved, panel, sizeof moved);
+    memcpy(next, answer, sizeof next);
+    while (next[DUSHVANETH_EXPLAINED_REASON] != DUSHVANETH_MATCHED) {
+        uint64_t others = ~syllable_at(moved, next[DUSHVANETH_EXPLAINED_SYLLABLE]);
+        memcpy(answer, next, sizeof next);
+        moved[DUSHVANETH_SC1] &= others;
+        moved[DUSHVANETH_SC2] &= others;
+        moved[DUSHVANETH_SC3] &= others;
+        if (dushvaneth_explain(words, n, responses, m, width, moved, DUSHVANETH_PANEL, word, next, DUSHVANETH_EXPLAINED_ANSWER) != 0) {
+            return;
+        }
+    }
+}
+
+/* 27: the last bit that differs is told, not the first. 33: a don't-care bit is told if it differs before. */
+static void tell_other_bit(uint64_t word, const uint64_t *panel, uint64_t *answer)
+{
+    uint64_t differ = (word ^ panel[DUSHVANETH_COMP]) & syllable_at(panel, answer[DUSHVANETH_EXPLAINED_SYLLABLE]);
+    if (fault == 27) {
+        differ &= panel[DUSHVANETH_SC1] | panel[DUSHVANETH_SC2];
+        answer[DUSHVANETH_EXPLAINED_BIT] = (uint64_t)__builtin_ctzll(differ);
+    } else {
+        answer[DUSHVANETH_EXPLAINED_BIT] = 63 - (uint64_t)__builtin_clzll(differ);
+    }
+}
+
+/* 26: the highest response bit that differs is told, not the lowest. */
+static void tell_highest_response_bit(dushvaneth_response response, const uint64_t *panel, uint64_t *answer)
+{
+    uint64_t differ = (response ^ panel[DUSHVANETH_KEY]) & panel[DUSHVANETH_CARE];
+    answer[DUSHVANETH_EXPLAINED_BIT] = 63 - (uint64_t)__builtin_clzll(differ);
+}
+
+/* 28: a word that is not selected is told as matched, if its syllables are satisfied. */
+static void tell_of_syllables(const uint64_t *words, size_t n, const dushvaneth_response *responses, size_t m, uint32_t width,
+                              const uint64_t *panel, size_t word, uint64_t *answer)
+{
+    uint64_t moved[DUSHVANETH_PANEL], then[DUSHVANETH_EXPLAINED_ANSWER];
+    memcpy(moved, panel, sizeof moved);
+    moved[DUSHVANETH_CARE] = 0;
+    if (dushvaneth_explain(words, n, responses, m, width, moved, DUSHVANETH_PANEL, word, then, DUSHVANETH_EXPLAINED_ANSWER) == 0 &&
+        then[DUSHVANETH_EXPLAINED_REASON] == DUSHVANETH_MATCHED) {
+        memcpy(answer, then, sizeof then);
+    }
+}
+
+/* 31: equal to the bottom is told as against at the bottom. */
+static void tell_against(const uint64_t *panel, uint64_t *answer)
+{
+    uint64_t syllable = syllable_at(panel, answer[DUSHVANETH_EXPLAINED_SYLLABLE]);
+    answer[DUSHVANETH_EXPLAINED_REASON] = DUSHVANETH_AGAINST;
+    answer[DUSHVANETH_EXPLAINED_BIT] = (uint64_t)__builtin_ctzll(syllable);
+}
+
+/* An explanation that was given, told otherwise. */
+static void tell_otherwise(const uint64_t *words, size_t n, const dushvaneth_response *responses, size_t m, uint32_t width,
+                           const uint64_t *panel, size_t word, uint64_t *answer)
+{
+    uint64_t reason = answer[DUSHVANETH_EXPLAINED_REASON];
+    if (fault == 25 && reason >= DUSHVANETH_AGAINST) {
+        tell_lowest_syllable(words, n, responses, m, width, panel, word, answer);
+    }
+    if (fault == 26 && reason == DUSHVANETH_NOT_SELECTED) {
+        tell_highest_response_bit(responses[word], panel, answer);
+    }
+    if ((fault == 27 || fault == 33) && reason == DUSHVANETH_AGAINST) {
+        tell_other_bit(words[word], panel, answer);
+    }
+    if (fault == 28 && reason == DUSHVANETH_NOT_SELECTED) {
+        tell_of_syllables(words, n, responses, m, width, panel, word, answer);
+    }
+    if (fault == 31 && reason == DUSHVANETH_EQUAL_TO_THE_BOTTOM) {
+        tell_against(panel, answer);
+    }
+}
+
+/* 34: of key, care and target the low byte is looked at. 35: a MOR that is too wide is passed over. 37: at least and at most are asked as larger
+ * and smaller where the search is not refused. */
+static void move_panel(uint64_t *moved, uint32_t r)
+{
+    if (fault == 34) {
+        moved[DUSHVANETH_KEY] &= 255;
+        moved[DUSHVANETH_CARE] &= 255;
+        moved[DUSHVANETH_TARGET] &= 255;
+    }
+    if (fault == 35) {
+        moved[DUSHVANETH_MOR] = 0;
+    }
+    if (fault == 37 && r == 0) {
+        moved[DUSHVANETH_SC3] = 0;
+    }
+}
+
+/* 29: 7 comes before 5. 30: the panel's address is judged. 32: an answer that is too short is told as far as it goes. 36: the word's number is
+ * taken to 32 bits. 38: 10 comes before 7. */
+static uint32_t faulty_explain(const uint64_t *words, size_t n, const dushvaneth_response *responses, size_t m, uint32_t width,
+                               const uint64_t *panel, size_t p, size_t word, uint64_t *answer, size_t a)
+{
+    uint64_t moved[DUSHVANETH_PANEL];
+    size_t asked = fault == 36 ? (uint32_t)word : word;
+    uint32_t r = dushvaneth_explain(words, n, responses, m, width, panel, p, asked, answer, a);
+    if (p == DUSHVANETH_PANEL) {
+        memcpy(moved, panel, sizeof moved);
+        move_panel(moved, r);
+        r = dushvaneth_explain(words, n, responses, m, width, moved, p, asked, answer, a);
+    }
+    if ((fault == 29 && r == 5 && word >= n) || (fault == 30 && r == 0 && panel[DUSHVANETH_ADDRESS] >= n)) {
+        return tell_other(7, 0, answer, a, DUSHVANETH_EXPLAINED_ANSWER);
+    }
+    if (fault == 32 && r == 10 && a > 0) {
+        answer[DUSHVANETH_REFUSAL] = r;
+    }
+    if (r == 0) {
+        tell_otherwise(words, n, responses, m, width, panel, word, answer);
+    }
+    return fault == 38 && r == 7 && a < DUSHVANETH_EXPLAINED_ANSWER ? 10 : r;
+}
+
 /* 4: an answer that is too short is told as far as it goes. */
 static uint32_t faulty_scan(const uint64_t *words, size_t n, const dushvaneth_response *responses, size_t m, uint32_t width,
                             dushvaneth_response key, dushvaneth_response care, uint64_t *answer, size_t a)
@@ -218,4 +349,4 @@ static uint32_t faulty_array_wide(uint64_t *ones, size_t n, uint64_t *xs, size_t
     return r;
 }
 
-enum { faults = 24 };
+enum { faults = 38 };

@@ -123,6 +123,62 @@ static void pulse(void)
     count_pulse();
 }
 
+/* A number that no word has: right behind them, or one whose low bits are a word's number. */
+static uint64_t no_word(void)
+{
+    uint64_t behind = host.n + below(3), high = below(host.n) | UINT64_C(1) << (11 + below(53));
+    return once_in(2) ? behind : once_in(4) ? UINT64_MAX : high;
+}
+
+/* A word that is equal to COMP, if there is one from here on; else this one. */
+static size_t equal_word(size_t from)
+{
+    for (size_t i = from; i < host.n; i++) {
+        if (host.words[i] == host.panel[DUSHVANETH_COMP]) {
+            return i;
+        }
+    }
+    return from;
+}
+
+/* Half of the time care has many bits, and the key is this word's response in all but a few of them. */
+static void aim_at(size_t word)
+{
+    if (once_in(2)) {
+        host.panel[DUSHVANETH_KEY] = host.responses[word] ^ (once_in(2) ? 0 : few_bits());
+        host.panel[DUSHVANETH_CARE] = any() & 255;
+    }
+}
+
+/* A register of the panel that is lent with one bit too high for it, if it has such bits: the address has none, the others of the width have none
+ * at 64 bits. */
+static void stray_register(void)
+{
+    uint64_t k = below(DUSHVANETH_PANEL), high = k >= DUSHVANETH_KEY && k <= DUSHVANETH_TARGET ? 8 : host.width, value;
+    if (k != DUSHVANETH_ADDRESS && high < 64) {
+        memcpy(&value, now.lent[2].bytes + 8 * k, 8);
+        value |= UINT64_C(1) << (high + below(64 - high));
+        memcpy(now.lent[2].bytes + 8 * k, &value, 8);
+    }
+}
+
+static void explain(void)
+{
+    if (!once_in(4)) {
+        new_panel();
+    }
+    size_t word = once_in(2) ? equal_word(below(host.n)) : below(host.n);
+    aim_at(word);
+    machine(at_explain, false, false);
+    lend(8, host.panel, DUSHVANETH_PANEL, NULL);
+    if (once_in(10)) {
+        stray_register();
+    }
+    give(once_in(8) ? no_word() : word);
+    now.no_room = once_in(12);
+    made(false);
+}
+
 static void resolve(void)
 {
     machine(once_in(2) ? at_scan : at_network, false, false);

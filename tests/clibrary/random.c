@@ -8,6 +8,7 @@
 #include "trial.h"
 #include "searches.h"
 #include "unfit.h"
+#include "explains.h"
 #include "host.h"
 #ifdef FAULTS
 #include <sys/wait.h>
@@ -17,8 +18,8 @@
 
 static void play(unsigned long s)
 {
-    static void (*const all[])(void) = {load, pulse, pulse, resolve, show, answer, answer, whole_round, start, step, step, total,
-                                        write_image, read_image, operate, operate};
+    static void (*const all[])(void) = {load, pulse, pulse, explain, explain, resolve, show, answer, answer, whole_round, start, step, step,
+                                        total, write_image, read_image, operate, operate};
     seed = s;
     call = 0;
     state = (s + 1) * 0x9E3779B97F4A7C15u;
@@ -32,23 +33,37 @@ static void play(unsigned long s)
 }
 
 /* Whether something came up often enough. */
-static unsigned long enough(unsigned long count, unsigned long *failed)
+static unsigned long enough(unsigned long count, unsigned long least, unsigned long *failed)
 {
-    printf(" %lu%s", count, count >= LEAST ? "," : " (too few),");
-    *failed += count < LEAST;
-    return count >= LEAST;
+    printf(" %lu%s", count, count >= least ? "," : " (too few),");
+    *failed += count < least;
+    return count >= least;
 }
 
 /* Counts by their names, on one line; how many of them are great enough. */
-static unsigned long report_named(const char *const *names, const unsigned long *named, int n, unsigned long *failed)
+static unsigned long report_named(const char *const *names, const unsigned long *named, int n, unsigned long least, unsigned long *failed)
 {
     unsigned long passed = 0;
     for (int i = 0; i < n; i++) {
         printf("%s:", names[i]);
-        passed += enough(named[i], failed);
+        passed += enough(named[i], least, failed);
         printf(i + 1 < n ? " " : "\n");
     }
     return passed;
+}
+
+/* Explanations, and each reason by the codes that it can be given with. */
+static unsigned long report_explained(unsigned long *failed)
+{
+    unsigned long passed = report_named(explained_as, explained, EXPLAINED, LEAST_EXPLAINED, failed);
+    printf("matched by   ");
+    passed += report_named(asked_as, matched_by, ASKED, LEAST_EXPLAINED, failed);
+    printf("not selected ");
+    passed += report_named(asked_as, not_selected_by, ASKED, LEAST_EXPLAINED, failed);
+    printf("against by   ");
+    passed += report_named(asked_as, against_by, ASKED, LEAST_EXPLAINED, failed);
+    printf("equal by     ");
+    return passed + report_named(asked_as + LARGER_AND_SMALLER, equal_by + LARGER_AND_SMALLER, 2, LEAST_EXPLAINED, failed);
 }
 
 static unsigned long report(unsigned long *failed)
@@ -60,16 +75,17 @@ static unsigned long report(unsigned long *failed)
             calls += counts[i][r];
             if ((told[i].numbers >> r & 1) == 1) {
                 printf(" %d:", r);
-                passed += enough(counts[i][r], failed);
+                passed += enough(counts[i][r], LEAST, failed);
             }
         }
         printf("\n");
     }
-    passed += report_named(ends, ended, ENDS, failed);
-    passed += report_named(searched_as, searched, SEARCHED, failed);
+    passed += report_named(ends, ended, ENDS, LEAST, failed);
+    passed += report_named(searched_as, searched, SEARCHED, LEAST, failed);
+    passed += report_explained(failed);
     for (size_t k = 0; k < sizeof judging / sizeof *judging; k++) {
         printf("%-12s ", told[judging[k]].name);
-        passed += report_named(named_as, named[judging[k]], NAMED, failed);
+        passed += report_named(named_as, named[judging[k]], NAMED, LEAST, failed);
     }
     printf("%lu calls\n", calls);
     return passed + calls / 100;

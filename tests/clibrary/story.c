@@ -1,6 +1,6 @@
-/* A host's whole story on the header alone: households are loaded and searched, jobs run with a stop and a resume from the image at each
- * pulse, and a round hands the due ones out, with a faulty one and a stop at each place. What must come out was worked out by hand
- * from document 01 and requests c and d of document 02. The last line is 'N passed, M failed'. */
+/* A host's whole story on the header alone: households are loaded and searched, staff ask why one was not picked, jobs run with a stop and a
+ * resume from the image at each pulse, and a round hands the due ones out, with a faulty one and a stop at each place. What must come out was
+ * worked out by hand from document 01 and requests c, d and e of document 02. The last line is 'N passed, M failed'. */
 #include <dushvaneth.h>
 #include <stdio.h>
 #include <string.h>
@@ -146,6 +146,79 @@ static void ask_with_equal(void)
     check_machine(__LINE__, all, due);
 }
 
+/* ---- why a household was not picked */
+
+static void check_why(int line, const uint64_t *panel, size_t household, uint64_t reason, uint64_t syllable, uint64_t bit)
+{
+    check(line, "the number", dushvaneth_explain(MACHINE, panel, DUSHVANETH_PANEL, household, ANSWER), DUSHVANETH_ACCEPTED);
+    check(line, "the reason", answer[DUSHVANETH_EXPLAINED_REASON], reason);
+    check(line, "the syllable", answer[DUSHVANETH_EXPLAINED_SYLLABLE], syllable);
+    check(line, "the bit", answer[DUSHVANETH_EXPLAINED_BIT], bit);
+}
+#define WHY(household, reason, syllable, bit) check_why(__LINE__, panel, household, DUSHVANETH_##reason, syllable, bit)
+
+/* What is asked under a panel that a search would be refused with, of a household that there isn't, or with too little room. */
+static void ask_in_vain(uint64_t panel[DUSHVANETH_PANEL])
+{
+    uint64_t kept = panel[DUSHVANETH_SC3], short_answer[DUSHVANETH_EXPLAINED_ANSWER - 1] = {9, 9, 9, 9};
+    int i;
+    CHECK(dushvaneth_explain(MACHINE, panel, DUSHVANETH_PANEL, HOUSEHOLDS, ANSWER), DUSHVANETH_REFUSED_NO_SUCH_WORD);
+    CHECK(answer[DUSHVANETH_REFUSAL], DUSHVANETH_REFUSED_NO_SUCH_WORD);
+    CHECK(answer[DUSHVANETH_EXPLAINED_REASON], 0);
+    CHECK(dushvaneth_explain(MACHINE, panel, DUSHVANETH_PANEL, 0, short_answer, 4), DUSHVANETH_REFUSED_NO_ROOM);
+    for (i = 0; i < 4; i++) {
+        CHECK(short_answer[i], 9);
+    }
+    panel[DUSHVANETH_SC3] = 0x0100; /* one of the four bits of visits alone */
+    CHECK(dushvaneth_explain(MACHINE, panel, DUSHVANETH_PANEL, HOUSEHOLDS, ANSWER), DUSHVANETH_REFUSED_TWO_CODES);
+    panel[DUSHVANETH_SC3] = kept;
+}
+
+/* Of the due households those with more than 3 points and fewer than 6 visits were picked. Points and visits are 1 2, 0 3, 5 1, 2 7, 3 0 and
+ * 9 6. Points have the top bit 15, visits 11.
+ *
+ * - 0 has 1 point, 0001 where 0011 is asked for: bits 15 and 14 are equal, bit 13 is 0 where it has to be 1.
+ * - 1 and 3 are not due: their response bit 0 is not set.
+ * - 2 is picked: 5 points, 1 visit.
+ * - 4 has 3 points, which is not more than 3.
+ * - 5 has 9 points, but 6 visits, which is not fewer than 6. */
+static void why(void)
+{
+    uint64_t panel[DUSHVANETH_PANEL], all[HOUSEHOLDS];
+    dushvaneth_response due[HOUSEHOLDS];
+    memcpy(all, words, sizeof all);
+    memcpy(due, responses, sizeof due);
+    dushvaneth_blank(panel);
+    dushvaneth_ask(panel, 12, 4, DUSHVANETH_LARGER, 3);
+    dushvaneth_ask(panel, 8, 4, DUSHVANETH_SMALLER, 6);
+    panel[DUSHVANETH_KEY] = panel[DUSHVANETH_CARE] = 1 << DUE;
+    panel[DUSHVANETH_ADDRESS] = HOUSEHOLDS; /* plays no part */
+    CHECK(panel[DUSHVANETH_SDR], 0x8880);
+    CHECK(dushvaneth_wide_pulse(MACHINE, panel, DUSHVANETH_PANEL, DUSHVANETH_SEARCH, ANSWER), 0);
+    CHECK(answer[DUSHVANETH_PULSE_COUNT], 1);
+    WHY(0, AGAINST, 15, 13);
+    WHY(1, NOT_SELECTED, 0, DUE);
+    WHY(2, MATCHED, 0, 0);
+    WHY(3, NOT_SELECTED, 0, DUE);
+    WHY(4, EQUAL_TO_THE_BOTTOM, 15, 0);
+    WHY(5, EQUAL_TO_THE_BOTTOM, 11, 0);
+    ask_in_vain(panel);
+    /* at least 3 points: 3 is enough now; at most 5 visits: 6 is 0110 where 0101 is asked for, so bit 9 settles against it */
+    dushvaneth_ask(panel, 12, 4, DUSHVANETH_AT_LEAST, 3);
+    dushvaneth_ask(panel, 8, 4, DUSHVANETH_AT_MOST, 5);
+    CHECK(dushvaneth_cells_pulse(MACHINE, panel, DUSHVANETH_PANEL, DUSHVANETH_SEARCH, ANSWER), 0);
+    CHECK(answer[DUSHVANETH_PULSE_COUNT], 2);
+    WHY(0, AGAINST, 15, 13);
+    WHY(2, MATCHED, 0, 0);
+    WHY(4, MATCHED, 0, 0);
+    WHY(5, AGAINST, 11, 9);
+    /* nobody is due and faulty: of the due ones bit 1, of the others bit 0 is the lowest that differs */
+    panel[DUSHVANETH_KEY] = panel[DUSHVANETH_CARE] = 1 << DUE | 1 << FAULTY;
+    WHY(2, NOT_SELECTED, 0, FAULTY);
+    WHY(1, NOT_SELECTED, 0, DUE);
+    check_machine(__LINE__, all, due);
+}
+
 /* ---- jobs, with a stop after each pulse */
 
 /* Fills the record of a job of that kind on the due households, A and P four bits wide from the bits given. */
@@ -284,6 +357,7 @@ int main(void)
     search();
     ask();
     ask_with_equal();
+    why();
     jobs();
     rounds();
     printf("%d passed, %d failed\n", passed, failed);

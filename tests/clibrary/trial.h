@@ -13,8 +13,8 @@
 #include <unistd.h>
 
 #define FUNCTIONS(X)                                                                                                              \
-    X(load) X(wide_pulse) X(cells_pulse) X(scan) X(network) X(show) X(answer) X(round) X(start) X(step) X(total) X(write) X(read) \
-    X(array_wide) X(array_cells)
+    X(load) X(wide_pulse) X(cells_pulse) X(explain) X(scan) X(network) X(show) X(answer) X(round) X(start) X(step) X(total)        \
+    X(write) X(read) X(array_wide) X(array_cells)
 #define SECOND(name) extern __typeof__(dushvaneth_##name) second_##name;
 FUNCTIONS(SECOND)
 #define PLACE(name) at_##name,
@@ -27,6 +27,13 @@ enum { FUNCTIONS(PLACE) functions };
 #define TRIED(name) dushvaneth_##name
 #endif
 
+/* What one function is held against another by: with no fault in it, which that function's own calls are to find. */
+#ifdef FAULTS
+#define FAULTLESS(name) dushvaneth_##name
+#else
+#define FAULTLESS(name) TRIED(name)
+#endif
+
 /* What may be returned, from the header's comments: bit k for number k. */
 static const struct {
     const char *name;
@@ -35,8 +42,8 @@ static const struct {
 #include "pairs.h"
 };
 /* How many numbers each answer has. */
-static const size_t answers[functions] = {0, DUSHVANETH_PULSE_ANSWER, DUSHVANETH_PULSE_ANSWER, DUSHVANETH_RESOLVED_ANSWER,
-    DUSHVANETH_RESOLVED_ANSWER, DUSHVANETH_RESOLVED_ANSWER, DUSHVANETH_REPLY_ANSWER, DUSHVANETH_ROUND_ANSWER,
+static const size_t answers[functions] = {0, DUSHVANETH_PULSE_ANSWER, DUSHVANETH_PULSE_ANSWER, DUSHVANETH_EXPLAINED_ANSWER,
+    DUSHVANETH_RESOLVED_ANSWER, DUSHVANETH_RESOLVED_ANSWER, DUSHVANETH_RESOLVED_ANSWER, DUSHVANETH_REPLY_ANSWER, DUSHVANETH_ROUND_ANSWER,
     DUSHVANETH_START_ANSWER, DUSHVANETH_STEP_ANSWER, DUSHVANETH_TOTAL_ANSWER, DUSHVANETH_IMAGE_WRITE_ANSWER, DUSHVANETH_IMAGE_READ_ANSWER,
     DUSHVANETH_ARRAY_ANSWER, DUSHVANETH_ARRAY_ANSWER};
 
@@ -136,6 +143,7 @@ static uint32_t answer_of(int side)
         ON(load, B(0), N(0), N(1));
         ON(wide_pulse, B(0), B(1), N(0), B(2), N(1), B(3));
         ON(cells_pulse, B(0), B(1), N(0), B(2), N(1), B(3));
+        ON(explain, B(0), B(1), N(0), B(2), N(1), B(3));
         ON(scan, B(0), B(1), N(0), N(1), N(2), B(2));
         ON(network, B(0), B(1), N(0), N(1), N(2), B(2));
         ON(show, B(0), B(1), N(0), N(1), B(2));
@@ -211,6 +219,9 @@ static void hold_answer(uint32_t r, const struct lent *b, const uint64_t *answer
     }
 }
 
+/* What is held of an explanation besides: explains.h. */
+static void hold_explanation(void);
+
 static void hold(uint32_t r, uint32_t second)
 {
     if (r != second) {
@@ -235,6 +246,9 @@ static void hold(uint32_t r, uint32_t second)
         }
     }
     hold_answer(r, &now.lent[last], at(0, last));
+    if (now.which == at_explain) {
+        hold_explanation();
+    }
 }
 
 /* ---- hostile arguments */

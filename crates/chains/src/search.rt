@@ -26,7 +26,7 @@ pub(crate) fn is_top(n: u32, sdr: u64, i: u32) -> bool
 }
 
 // The lowest bit of the syllable whose top bit is bit i.
-pub(crate) fn bottom_of(sdr: u64, i: u32) -> u32
+pub fn bottom_of(sdr: u64, i: u32) -> u32
     requires { ⌜ i < 64 ⌝ }
     ensures { λ r. ⌜ (r ≡ bottom sdr i) × (r ≤ i) ⌝ }
 {
@@ -42,7 +42,7 @@ pub(crate) fn bottom_of(sdr: u64, i: u32) -> u32
 
 // ---- codes and SC3
 
-fn code_at(panel: Panel, i: u32) -> Code
+pub fn code_at(panel: Panel, i: u32) -> Code
     requires { ⌜ i < 64 ⌝ }
     ensures { λ r. ⌜ r ≡ codeAt panel i ⌝ }
 {
@@ -234,7 +234,7 @@ fn settle_by(code: Code, w: u64, c: u64) -> Status
 }
 
 // One cell: a settled status stays.
-fn pass_on(code: Code, w: u64, c: u64, above: Status) -> Status
+pub fn pass_on(code: Code, w: u64, c: u64, above: Status) -> Status
     ensures { λ r. ⌜ r ≡ cell code w c above ⌝ }
 {
     match above {
@@ -307,7 +307,7 @@ fn is_accepted(panel: Panel, w: u64, low: u32, width: u32) -> bool
 }
 
 // At bit i: the syllable that it starts, or true where it starts none.
-fn accepted_at(n: u32, panel: Panel, w: u64, i: u32) -> bool
+pub fn accepted_at(n: u32, panel: Panel, w: u64, i: u32) -> bool
     requires { ⌜ i < 64 ⌝ }
     ensures { λ r. ⌜ r ≡ here (accepted panel w) n (panel .sdr) i ⌝ }
 {

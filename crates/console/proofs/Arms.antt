@@ -53,21 +53,21 @@ change-parts a b e t words responses bytes f g h i = rw e (f, (g, (h, i)))
 -- ---- the four tables
 
 module _ (d : Desk) (name : List ℕ) (args : List (List ℕ)) (k : ℕ) where
-  module _ (is : k ≡ placeOf name (wordsOf (ascii "panel resolve tree show total store list room"))) where
+  module _ (is : k ≡ placeOf name (wordsOf (ascii "panel resolve tree show total store list room why"))) where
     looked-at : (n : ℕ) → k ≡ n → looked d name args ≡ getD (lookings d args) n (said d outcome.BadLine)
     unfolding looked
-    looked-at n f = at-place "panel resolve tree show total store list room" name (lookings d args) (said d outcome.BadLine) k n is f
+    looked-at n f = at-place "panel resolve tree show total store list room why" name (lookings d args) (said d outcome.BadLine) k n is f
 
-    looked-none : 8 ≤ k → looked d name args ≡ said d outcome.BadLine
+    looked-none : 9 ≤ k → looked d name args ≡ said d outcome.BadLine
     unfolding looked
-    looked-none h = past-end "panel resolve tree show total store list room" name (lookings d args) (said d outcome.BadLine) k is h
+    looked-none h = past-end "panel resolve tree show total store list room why" name (lookings d args) (said d outcome.BadLine) k is h
 
     pub look-arm : (n : ℕ) → k ≡ n → (out : Outcome) (bytes : List ℕ) →
         out ≡ getD (lookings d args) n (said d outcome.BadLine) .outcome → bytes ≡ getD (lookings d args) n (said d outcome.BadLine) .bytes →
         (out ≡ looked d name args .outcome) × (bytes ≡ looked d name args .bytes)
     look-arm n f = look-parts _ _ (looked-at n f)
 
-    pub look-other : 8 ≤ k → (outcome.BadLine ≡ looked d name args .outcome) × (d .bytes ≡ looked d name args .bytes)
+    pub look-other : 9 ≤ k → (outcome.BadLine ≡ looked d name args .outcome) × (d .bytes ≡ looked d name args .bytes)
     look-other h = look-parts _ _ (looked-none h) _ _ refl refl
 
   module _ (is : k ≡ placeOf name (wordsOf (ascii "word response pulse cells done faulty"))) where

@@ -67,10 +67,11 @@ lookings d args =
     ∷ record { outcome = images.storeOutcome args s room; bytes = images.stored args s (d .bytes) }
     ∷ record { outcome = images.listOutcome args s room; bytes = images.stored args s (d .bytes) }
     ∷ record { outcome = images.roomOutcome args s room; bytes = images.roomWritten args s (d .bytes) }
+    ∷ said d (calls.whyOutcome args m p)
     ∷ []
 
 unfoldable pub looked : Desk → List ℕ → List (List ℕ) → Looked
-looked d name args = among "panel resolve tree show total store list room" name (lookings d args) (said d outcome.BadLine)
+looked d name args = among "panel resolve tree show total store list room why" name (lookings d args) (said d outcome.BadLine)
 
 -- ---- those that change words and responses alone
 

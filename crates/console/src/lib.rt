@@ -157,7 +157,7 @@ fn look(
     ensures { λ r. ⌜ r ≡ obeying.looked (obeying.desk board (now (words .entry)) (now (responses .entry)) (now (bytes .entry))) (now (name .entry)) (wordsOf (now (rest .entry))) .outcome ⌝ }
     ensures { λ _. ⌜ now (bytes .exit) ≡ obeying.looked (obeying.desk board (now (words .entry)) (now (responses .entry)) (now (bytes .entry))) (now (name .entry)) (wordsOf (now (rest .entry))) .bytes ⌝ }
 {
-    match text::words::which(b"panel resolve tree show total store list room", name) {
+    match text::words::which(b"panel resolve tree show total store list room why", name) {
         0 => console_setting::tell_panel(board, rest),
         1 => console_pulsing::resolve(board, rest, words, responses),
         2 => console_pulsing::tree(board, rest, words, responses),
@@ -166,6 +166,7 @@ fn look(
         5 => console_storing::store(board, rest, words, responses, bytes),
         6 => console_storing::list(board, rest, words, responses, bytes),
         7 => console_storing::room(board, rest, words, responses, bytes),
+        8 => console_pulsing::why(board, rest, words, responses),
         _ => Outcome::BadLine,
     }
 }

@@ -2,6 +2,7 @@
 // The commands stand in `console_setting`, `console_pulsing`, `console_working` and `console_storing`: each takes the rest of its line apart, gives it to the
 // library and hands back the library's answer, to be printed. docs/BOARD.md has the language. "The console checks nothing that
 // document 01 gives a refusal for": what a command turns down itself is a line that is none of its own.
+use explainer::Explained;
 use job_plans::Command;
 use job_plans::Held;
 use job_plans::Job;
@@ -38,6 +39,7 @@ pub enum Outcome {
     },
     Word(WordSlice),
     NoWord,
+    Why(Explained),
     Registers(Panel),
     Gave {
         command: Command,

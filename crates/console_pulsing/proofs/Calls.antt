@@ -10,17 +10,19 @@ use Rattle.machine.specs.declared.WordSlice.{WordSlice}
 use Rattle.machine.specs.declared.ResponseBit.{ResponseBit}
 use Rattle.machine.specs.Machine.{Machine}
 use Rattle.machine.specs.Refusals.{answerOf, after}
+use Rattle.explainer.specs.declared.Explained.{Explained}
+use Rattle.explainer.specs.Reasons.{explained}
 use Rattle.resolver.specs.declared.Resolved.{Resolved}
 use Rattle.resolver.specs.Answers.{resolution}
 use Rattle.rounds.specs.declared.Verdict.{Verdict}
 use Rattle.rounds.specs.declared.Reply.{Reply}
 use Rattle.rounds.specs.Round.{showOf, replyOf, afterAnswer}
-use Rattle.text.specs.Rows.{fits, values, byteAt}
+use Rattle.text.specs.Rows.{fits, values, numberAt, byteAt}
 use Rattle.console_commands.specs.declared.Outcome.{Outcome}
-use Rattle.console_commands.specs.declared.Outcome.the-variants.{BadLine}
+use Rattle.console_commands.specs.declared.Outcome.the-variants.{BadLine, Why}
 use Rattle.console_pulsing.specs.declared.Named.{Named}
 use Rattle.console_pulsing.specs.declared.Named.the-variants.{Are, Bad}
-use Rattle.console_pulsing.specs.Calls.{told, found, replied, wordIn, pulseOutcome, pulseAfter, resolveOutcome, showOutcome, answerOutcome, answerAfter}
+use Rattle.console_pulsing.specs.Calls.{told, found, replied, wordIn, pulseOutcome, pulseAfter, resolveOutcome, whyOutcome, showOutcome, answerOutcome, answerAfter}
 
 -- a response bit is its number
 same-bit : (x : ResponseBit) (k : ℕ) → x .0 ≡ k → x ≡ record { 0 = k }
@@ -38,7 +40,7 @@ module _ (named all : Named) (is : named ≡ all) (m : Machine) (p : Panel) wher
       (r ≡ pulseOutcome all m p) × ((ws ≡ pulseAfter all m p .words) × (rs ≡ pulseAfter all m p .responses))
   pulse-told l e a r ws rs f g h k = rw (← is, e, g, f, h, k) (refl, (refl, refl))
 
--- ---- resolve and tree, show, done and faulty: b is whether the line is right
+-- ---- resolve and tree, why, show, done and faulty: b is whether the line is right
 
 module _ (args : List (List ℕ)) (m : Machine) (b : Bool) where
   module _ (is : b ≡ fits "" args) (p : Panel) where
@@ -48,6 +50,14 @@ module _ (args : List (List ℕ)) (m : Machine) (b : Bool) where
     pub resolve-found : b ≡ true → (x : Resolved) (r : Outcome) → x ≡ resolution (p .key) (p .care) m → r ≡ found x →
         r ≡ resolveOutcome args m p
     resolve-found e x r f g = rw (← is, e, g, f)
+
+  module _ (is : b ≡ fits "a" args) (p : Panel) where
+    pub why-bad : b ≡ false → BadLine ≡ whyOutcome args m p
+    why-bad e = rw (← is, e)
+
+    pub why-told : b ≡ true → (row : List ℕ) → row ≡ values "a" args → (w : WordSlice) → w ≡ record { 0 = numberAt row 0 } → (e : Explained) → e ≡ explained m p w →
+        Why e ≡ whyOutcome args m p
+    why-told t row h w k e g = rw (← is, t, g, k, h)
 
   module _ (is : b ≡ fits "b" args) where
     pub show-bad : b ≡ false → BadLine ≡ showOutcome args m

@@ -1,4 +1,4 @@
--- What the commands pulse, cells, resolve, tree, show, done and faulty do, in the words of docs/BOARD.md: each is one call of the library on
+-- What the commands pulse, cells, resolve, tree, why, show, done and faulty do, in the words of docs/BOARD.md: each is one call of the library on
 -- the board's machine. `args` are the words after the command's name.
 use Prim.Native.Nat.{ℕ}
 use mathlib.Core.List.{List}
@@ -10,6 +10,7 @@ use Rattle.machine.specs.declared.Answer.{Answer}
 use Rattle.machine.specs.declared.Answer.the-variants as answer
 use Rattle.machine.specs.Machine.{Machine}
 use Rattle.machine.specs.Refusals.{answerOf, after}
+use Rattle.explainer.specs.Reasons.{explained}
 use Rattle.resolver.specs.declared.Resolved.{Resolved}
 use Rattle.resolver.specs.declared.Resolved.the-variants as resolved
 use Rattle.resolver.specs.Answers.{resolution}
@@ -39,7 +40,7 @@ abbrev pub pulseAfter : Named → Machine → Panel → Machine
 pulseAfter (Are lines) m p = after m p lines
 pulseAfter Bad m p = m
 
--- ---- resolve, tree and show
+-- ---- resolve, tree, why and show
 
 -- "`word I` or `none`", or the refusal
 abbrev pub found : Resolved → Outcome
@@ -50,6 +51,10 @@ found (resolved.Refused why) = outcome.Refused why
 -- "resolve: resolution under the panel's key and care"; "tree: the same, by the network"
 abbrev pub resolveOutcome : List (List ℕ) → Machine → Panel → Outcome
 resolveOutcome args m p = pick (fits "" args) (found (resolution (p .key) (p .care) m)) outcome.BadLine
+
+-- "why I: why word I (below 2^64) is or is not picked by a search under the panel"
+abbrev pub whyOutcome : List (List ℕ) → Machine → Panel → Outcome
+whyOutcome args m p = pick (fits "a" args) (outcome.Why (explained m p (record { 0 = numberAt (values "a" args) 0 }))) outcome.BadLine
 
 -- number k of a row, as a response bit's
 abbrev pub bitIn : List ℕ → ℕ → ResponseBit

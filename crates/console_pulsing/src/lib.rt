@@ -1,5 +1,6 @@
-// The commands that give the machine one pulse, ask it for a word, or answer for one: pulses on both machines, resolution by the
-// scan and by the network, and the hand-out round. Document 01: 'One pulse', 'The hand-out round'; docs/BOARD.md has the language.
+// The commands that give the machine one pulse, ask it for a word or about one, or answer for one: pulses on both machines, resolution by the
+// scan and by the network, the explainer, and the hand-out round. Document 01: 'One pulse', 'The hand-out round'; document 02, request e;
+// docs/BOARD.md has the language.
 use console_commands::Board;
 use console_commands::Outcome;
 use machine::Answer;
@@ -161,6 +162,19 @@ pub fn tree(board: Board, rest: &[u8], words: &[u64], responses: &[Response]) ->
     }
     let panel = board.panel;
     resolved(resolver::network(words, responses, board.width, panel.key, panel.care))
+}
+
+// why I
+pub fn why(board: Board, rest: &[u8], words: &[u64], responses: &[Response]) -> Outcome
+    ensures { λ r. ⌜ r ≡ calls.whyOutcome (wordsOf (now (rest .entry))) (machine (board .width) (now (words .entry)) (now (responses .entry))) (board .panel) ⌝ }
+{
+    let row = arguments::read(rest, b"a");
+    if !row.right {
+        return Outcome::BadLine;
+    }
+    let word = WordSlice(row.values[0] as usize);
+    let panel = board.panel;
+    Outcome::Why(explainer::explain(words, responses, board.width, panel, word))
 }
 
 fn response_bit(x: u64) -> ResponseBit

@@ -9,7 +9,7 @@ use Rattle.console_commands.specs.declared.Outcome.the-variants as outcome
 use Rattle.listing.proofs.Lengths.{Within, none, both, within, either, text, number, word, refused}
 use Rattle.listing.proofs.Room.{list}
 use Rattle.console_replies.specs.Texts.{pairsText, printed}
-use Rattle.console_replies.proofs.Lengths.{panel, step}
+use Rattle.console_replies.proofs.Lengths.{panel, step, why}
 
 pairs : (bytes : List ℕ) → Within (pairsText bytes) (2 * length bytes)
 unfolding pairsText
@@ -26,6 +26,7 @@ room (outcome.Refused why) bs h = small (omega arith) (refused why)
 room (outcome.Pulsed count w) bs h = small (omega arith) (both (number "count " count) (word " read " w))
 room (outcome.Word w) bs h = small (omega arith) (number "word " (w .0))
 room outcome.NoWord bs h = omega arith
+room (outcome.Why given) bs h = small (omega arith) (why given)
 room (outcome.Registers p) bs h = small (omega arith) (both (panel p) (number " address " (p .address .0)))
 room (outcome.Gave k count held) bs h = small (omega arith) (step k count held)
 room (outcome.Pulses k) bs h = small (omega arith) (number "pulses " k)

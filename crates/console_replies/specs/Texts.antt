@@ -6,6 +6,8 @@ use lib.Dec.{leb}
 use lib.ListN.{length, take}
 use Rattle.laws.specs.Bits.{pick}
 use Rattle.machine.specs.declared.Panel.{Panel}
+use Rattle.explainer.specs.declared.Explained.{Explained}
+use Rattle.explainer.specs.declared.Explained.the-variants as explains
 use Rattle.job_plans.specs.declared.Command.{Command}
 use Rattle.text.specs.Ascii.{ascii}
 use Rattle.output.specs.Digits.{pair}
@@ -41,6 +43,15 @@ unfoldable pub pairsText : List ℕ → List ℕ
 pairsText [] = []
 pairsText (byte ∷ bytes) = pair byte ++ pairsText bytes
 
+-- ---- request e: "`matched`, `not selected bit K`, `syllable T against at B`, `syllable T equal to the bottom`", or the refusal
+
+abbrev pub whyText : Explained → List ℕ
+whyText explains.Matched = ascii "matched"
+whyText (explains.NotSelected bit) = named "not selected bit " (bit .0)
+whyText (explains.Against syllable bit) = named "syllable " (syllable .0) ++ named " against at " (bit .0)
+whyText (explains.EqualToTheBottom syllable) = named "syllable " (syllable .0) ++ ascii " equal to the bottom"
+whyText (explains.Refused why) = refusalText why
+
 -- ---- every outcome; `bytes` holds the image where it speaks of one
 
 abbrev pub ofImage : List ℕ → ℕ → (List ℕ → List ℕ) → List ℕ
@@ -53,6 +64,7 @@ printed (outcome.Refused why) bytes = refusalText why
 printed (outcome.Pulsed count word) bytes = named "count " count ++ named16 " read " word
 printed (outcome.Word word) bytes = named "word " (word .0)
 printed outcome.NoWord bytes = ascii "none"
+printed (outcome.Why given) bytes = whyText given
 printed (outcome.Registers panel) bytes = panelText panel ++ named " address " (panel .address .0)
 printed (outcome.Gave command count held) bytes = stepText command count held
 printed (outcome.Pulses k) bytes = named "pulses " k

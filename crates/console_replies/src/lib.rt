@@ -1,6 +1,8 @@
 // What the console prints of each outcome: one line, but for the list. docs/BOARD.md has the language.
 use console_commands::Outcome;
+use explainer::Explained;
 use job_plans::Command;
+use machine::BitSlice;
 use machine::Panel;
 ghost use mathlib.Core.List.{_∷_, [], _++_};
 ghost use Rattle.laws.specs.Bits.{pick};
@@ -38,6 +40,39 @@ fn put_panel(out: &mut [u8], at: usize, panel: Panel) -> usize
     let key = listing::put_response(out, registers, b" key ", panel.key);
     let care = listing::put_response(out, key, b" care ", panel.care);
     listing::put_response(out, care, b" target ", panel.target)
+}
+
+// ---- why a word is picked, or is not
+
+fn put_against(out: &mut [u8], syllable: BitSlice, bit: BitSlice) -> usize
+    ensures { λ r. ⌜ Puts (texts.whyText (Explained.Against syllable bit)) 0 (now (out .entry)) (now (out .exit)) r ⌝ }
+{
+    let n = output::put_named(out, 0, b"syllable ", syllable.0 as u64);
+    output::put_named(out, n, b" against at ", bit.0 as u64)
+}
+
+fn put_equal(out: &mut [u8], syllable: BitSlice) -> usize
+    ensures { λ r. ⌜ Puts (texts.whyText (Explained.EqualToTheBottom syllable)) 0 (now (out .entry)) (now (out .exit)) r ⌝ }
+{
+    let n = output::put_named(out, 0, b"syllable ", syllable.0 as u64);
+    output::put(out, n, b" equal to the bottom")
+}
+
+fn put_why(out: &mut [u8], given: Explained) -> usize
+    ensures { λ r. ⌜ Puts (texts.whyText given) 0 (now (out .entry)) (now (out .exit)) r ⌝ }
+{
+    match given {
+        Explained::Matched => output::put(out, 0, b"matched"),
+        Explained::NotSelected(bit) => output::put_named(
+            out,
+            0,
+            b"not selected bit ",
+            bit.0 as u64,
+        ),
+        Explained::Against { syllable, bit } => put_against(out, syllable, bit),
+        Explained::EqualToTheBottom(syllable) => put_equal(out, syllable),
+        Explained::Refused(why) => listing::put_refusal(out, why),
+    }
 }
 
 // ---- the other lines
@@ -129,6 +164,7 @@ fn put_outcome(out: &mut [u8], outcome: Outcome, bytes: &[u8]) -> usize
         Outcome::Image(n) => put_image(out, bytes, n, false),
         Outcome::Listing(n) => put_image(out, bytes, n, true),
         Outcome::Length(n) => output::put_named(out, 0, b"image ", n as u64),
+        Outcome::Why(given) => put_why(out, given),
     }
 }
 

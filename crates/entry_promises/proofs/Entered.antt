@@ -25,6 +25,7 @@ use Rattle.machine.specs.declared.ResponseBit.{ResponseBit}
 use Rattle.machine.specs.Machine.{Machine, machine}
 use Rattle.machine.specs.Panel.{panelOf}
 use Rattle.machine.specs.Panel as panel
+use Rattle.machine.specs.declared.WordSlice.{WordSlice}
 use Rattle.machine.specs.Pulse.{countOf, pulsed}
 use Rattle.machine.specs.Pulse as pulse
 use Rattle.machine.specs.Refusals.{_else_, refuse, machineCheck, pulseCheck, answerBy, changeBy, answerOf, after, tells, numberOf, Told, told}
@@ -57,14 +58,20 @@ use Rattle.image_layout.specs.Reading.{stateIn}
 use Rattle.image.specs.declared.Wrote.the-variants as wrote
 use Rattle.image.specs.declared.Read.the-variants as back
 use Rattle.image.specs.Calls.{writeCheck, writeOf, written, readCheck, readOf, wordsRead, responsesRead, ToldWrote, toldWrote, ToldRead, toldRead}
-use Rattle.promises.proofs.Demand1.{Entry, first, given, machineTable, pulseTable, showTable, answerTable, roundTable, startTable, stepsTable, totalTable, writeTable, readTable, pulse-given, resolution-given, show-given, answer-given, round-given, start-given, step-given, total-given, write-given, read-given}
+use Rattle.explainer.specs.declared.Explained.{Explained}
+use Rattle.explainer.specs.declared.Explained.the-variants as explains
+use Rattle.explainer.specs.Reasons as reasons
+use Rattle.explainer.specs.Reasons.{explainCheck, reasonAt, explained}
+use Rattle.explainer.proofs.Answers.{reason-answers}
+use Rattle.promises.proofs.Explaining.{TrueAt, accepted-true}
+use Rattle.promises.proofs.Demand1.{Entry, first, given, machineTable, pulseTable, explainTable, showTable, answerTable, roundTable, startTable, stepsTable, totalTable, writeTable, readTable, pulse-given, explain-given, resolution-given, show-given, answer-given, round-given, start-given, step-given, total-given, write-given, read-given}
 use Rattle.entry_forms.specs.Numbers.{lower, panelCheck, linesOf, roomCheck, tellIn, resolvedSize, resolvedNumbers}
 use Rattle.entry_forms.specs.Records.{jobIn, heldIn}
 use Rattle.entry_pulses.specs.Entries as pulses
 use Rattle.entry_rounds.specs.Entries as rounds
 use Rattle.entry_jobs.specs.Entries as jobs
 use Rattle.entry_images.specs.Entries as images
-use Rattle.entry_promises.proofs.Lowest.{lowest, loadOwnTable, pulseOwnTable, roomTable, recordTable, heldOwnTable, startOwnTable, load-own, pulse-own, room-own, record-own, held-own, start-own, lower-given, both-pass}
+use Rattle.entry_promises.proofs.Lowest.{lowest, loadOwnTable, pulseOwnTable, explainOwnTable, roomTable, recordTable, heldOwnTable, startOwnTable, load-own, pulse-own, explain-own, room-own, record-own, held-own, start-own, lower-given, both-pass}
 use Rattle.entry_pulses.proofs.dushvaneth_load as load
 use Rattle.entry_pulses.proofs.dushvaneth_load.Kinds as load-kinds
 use Rattle.entry_pulses.proofs.dushvaneth_load.Reads as load-reads
@@ -74,6 +81,9 @@ use Rattle.entry_pulses.proofs.dushvaneth_wide_pulse.Reads as wide-pulse-reads
 use Rattle.entry_pulses.proofs.dushvaneth_cells_pulse as plain-pulse
 use Rattle.entry_pulses.proofs.dushvaneth_cells_pulse.Kinds as plain-pulse-kinds
 use Rattle.entry_pulses.proofs.dushvaneth_cells_pulse.Reads as plain-pulse-reads
+use Rattle.entry_pulses.proofs.dushvaneth_explain as explain
+use Rattle.entry_pulses.proofs.dushvaneth_explain.Kinds as explain-kinds
+use Rattle.entry_pulses.proofs.dushvaneth_explain.Reads as explain-reads
 use Rattle.entry_pulses.proofs.dushvaneth_scan as scan
 use Rattle.entry_pulses.proofs.dushvaneth_scan.Kinds as scan-kinds
 use Rattle.entry_pulses.proofs.dushvaneth_scan.Reads as scan-reads
@@ -269,6 +279,48 @@ pub plain-pulse-enters : (κs : Lfts 4) (a : ArgsD plain-pulse.signature κs) (r
 plain-pulse-enters κs a r s h =
     a-pulse (machine (a .1 .1 .0) (now (a .0)) (now (a .1 .0))) (now (a .1 .1 .1 .0)) (a .1 .1 .1 .1 .0) (now (a .1 .1 .1 .1 .1 .0)) r
     (now (s .1 .1 .1 .1 .1 .0)) (now (s .0)) (now (s .1 .0)) (h .0) (h .1 .0) (h .1 .1 .0) (h .1 .1 .1)
+
+-- ---- the explainer
+
+abbrev tellsExplained : reasons.Told → ℕ × ℕ
+tellsExplained t = (t .refusal, t .also)
+
+pub explain-enters : (κs : Lfts 4) (a : ArgsD explain.signature κs) (r : ResD explain.signature κs) (s : AtExit (endedOf 4 explain-kinds.ps explain-kinds.r) κs)
+    → explain-reads.Post κs a r s
+    → let m = machine (a .1 .1 .0) (now (a .0)) (now (a .1 .0)) in
+    let registers = now (a .1 .1 .1 .0) in
+    let word : WordSlice = record { 0 = a .1 .1 .1 .1 .0 } in
+    let answer = now (a .1 .1 .1 .1 .1 .0) in
+    let t = pulses.explainedTold m registers (a .1 .1 .1 .1 .0) (length answer) in
+    Enters tellsExplained (explainOwnTable registers pulses.explainedSize (length answer)) (explainTable m (panelOf registers) word)
+    (explainCheck m (panelOf registers) word) r t (reasons.told (explained m (panelOf registers) word))
+    × (now (s .1 .1 .1 .1 .1 .0) ≡ tellIn (pulses.explainedNumbers t) answer)
+unfolding pulses.explainedTold pulses.explainEntry explained
+explain-enters κs a r s h =
+    let m = machine (a .1 .1 .0) (now (a .0)) (now (a .1 .0)) in
+    let registers = now (a .1 .1 .1 .0) in
+    let p = panelOf registers in
+    let word : WordSlice = record { 0 = a .1 .1 .1 .1 .0 } in
+    let room = length (now (a .1 .1 .1 .1 .1 .0)) in (
+      enters-by explains.Refused (reasonAt m p word) (pulses.explainOwn registers room) (explainCheck m p word) tellsExplained reasons.told (λ w. refl)
+          (λ z. reason-answers _ p _ _) (explainOwnTable registers pulses.explainedSize room) (explainTable m p word)
+          (explain-own registers pulses.explainedSize room) (explain-given m p word) r (h .0),
+      h .1,
+    )
+
+-- 02 e: "Each reason given is proved true": what a caller in C is told where 0 is returned is an answer that is true
+pub explain-entry-true : (κs : Lfts 4) (a : ArgsD explain.signature κs) (r : ResD explain.signature κs) (s : AtExit (endedOf 4 explain-kinds.ps explain-kinds.r) κs)
+    → explain-reads.Post κs a r s → r ≡ 0
+    → let m = machine (a .1 .1 .0) (now (a .0)) (now (a .1 .0)) in
+    let answer = now (a .1 .1 .1 .1 .1 .0) in
+    (e : Explained) × (now (s .1 .1 .1 .1 .1 .0) ≡ tellIn (pulses.explainedNumbers (reasons.told e)) answer) × TrueAt m (panelOf (now (a .1 .1 .1 .0))) (record { 0 = a .1 .1 .1 .1 .0 }) e
+explain-entry-true κs a r s h z =
+    let m = machine (a .1 .1 .0) (now (a .0)) (now (a .1 .0)) in
+    let p = panelOf (now (a .1 .1 .1 .0)) in
+    let word : WordSlice = record { 0 = a .1 .1 .1 .1 .0 } in
+    let answer = now (a .1 .1 .1 .1 .1 .0) in
+    let c = explain-enters κs a r s h in
+    (explained m p word, c .1 ∙ ap (λ (t : reasons.Told). tellIn (pulses.explainedNumbers t) answer) (c .0 .accepted z .1), accepted-true m p word (c .0 .accepted z .0))
 
 -- ---- resolution and show
 

@@ -39,6 +39,9 @@ overflow rs = overflows rs 5 || (overflows rs 6 || overflows rs 7)
 abbrev pub pulseOwnTable : List ℕ → ℕ → ℕ → ℕ → List Entry
 pulseOwnTable rs lines size room = entry 1 (wrongPanel rs) ∷ entry 4 (overflow rs) ∷ entry 6 (raised lines 7) ∷ entry 10 (ltb room size) ∷ []
 
+abbrev pub explainOwnTable : List ℕ → ℕ → ℕ → List Entry
+explainOwnTable rs size room = entry 1 (wrongPanel rs) ∷ entry 4 (overflow rs) ∷ entry 10 (ltb room size) ∷ []
+
 abbrev pub loadOwnTable : List ℕ → ℕ → ℕ → List Entry
 loadOwnTable rs k v = entry 1 (wrongPanel rs) ∷ entry 4 (overflow rs || not (takes k v)) ∷ []
 
@@ -59,9 +62,9 @@ startOwnTable held job size room =
 
 -- each is in the order of the numbers' turns
 pub own-ordered : (rs : List ℕ) (lines k v : ℕ) (held job : List ℕ) (size room : ℕ)
-    → (ordered (pulseOwnTable rs lines size room) ≡ true) × (ordered (loadOwnTable rs k v) ≡ true) × (ordered (roomTable size room) ≡ true)
+    → (ordered (pulseOwnTable rs lines size room) ≡ true) × (ordered (explainOwnTable rs size room) ≡ true) × (ordered (loadOwnTable rs k v) ≡ true) × (ordered (roomTable size room) ≡ true)
     × (ordered (recordTable job size room) ≡ true) × (ordered (heldOwnTable held size room) ≡ true) × (ordered (startOwnTable held job size room) ≡ true)
-own-ordered rs lines k v held job size room = (refl, refl, refl, refl, refl, refl)
+own-ordered rs lines k v held job size room = (refl, refl, refl, refl, refl, refl, refl)
 
 -- ---- each is given exactly then
 
@@ -85,6 +88,18 @@ pulse-own rs lines size room = go (wrongPanel rs) (overflow rs) (raised lines 7)
     go false false true false = refl
     go false false false true = refl
     go false false false false = refl
+
+pub explain-own : (rs : List ℕ) (size room : ℕ) → given (lower (panelCheck rs) (roomCheck size room)) ≡ first (explainOwnTable rs size room)
+unfolding first
+explain-own rs size room = go (wrongPanel rs) (overflow rs) (ltb room size)
+  where
+    go : (a b c : Bool) → given (lower (refuse Size a else refuse PanelTooWide b) (refuse NoRoom c)) ≡ first (entry 1 a ∷ entry 4 b ∷ entry 10 c ∷ [])
+    go true b true = refl
+    go true b false = refl
+    go false true true = refl
+    go false true false = refl
+    go false false true = refl
+    go false false false = refl
 
 pub load-own : (rs : List ℕ) (k v : ℕ) → given (lower (panelCheck rs) (refuse PanelTooWide (not (takes k v)))) ≡ first (loadOwnTable rs k v)
 unfolding first

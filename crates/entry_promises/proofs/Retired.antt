@@ -31,11 +31,13 @@ use Rattle.image_layout.specs.Format.{imageOf}
 use Rattle.image.specs.declared.Wrote.the-variants as wrote
 use Rattle.entry_forms.specs.Numbers.{lower, linesOf, roomCheck, resolvedSize}
 use Rattle.entry_forms.specs.Records.{heldIn}
+use Rattle.explainer.specs.declared.Explained.the-variants as explains
+use Rattle.explainer.specs.Reasons.{reasonAt}
 use Rattle.entry_pulses.specs.Entries as pulses
 use Rattle.entry_rounds.specs.Entries as rounds
 use Rattle.entry_jobs.specs.Entries as jobs
 use Rattle.entry_images.specs.Entries as images
-use Rattle.promises.proofs.InOrder.{answer-not-8, resolved-not-8, reply-not-8, report-not-8, started-not-8, stepped-not-8, total-not-8, wrote-not-8, read-not-8}
+use Rattle.promises.proofs.InOrder.{answer-not-8, explained-not-8, resolved-not-8, reply-not-8, report-not-8, started-not-8, stepped-not-8, total-not-8, wrote-not-8, read-not-8}
 use Rattle.entry_pulses.proofs.dushvaneth_load as load
 use Rattle.entry_pulses.proofs.dushvaneth_load.Kinds as load-kinds
 use Rattle.entry_pulses.proofs.dushvaneth_load.Reads as load-reads
@@ -45,6 +47,9 @@ use Rattle.entry_pulses.proofs.dushvaneth_wide_pulse.Reads as wide-pulse-reads
 use Rattle.entry_pulses.proofs.dushvaneth_cells_pulse as plain-pulse
 use Rattle.entry_pulses.proofs.dushvaneth_cells_pulse.Kinds as plain-pulse-kinds
 use Rattle.entry_pulses.proofs.dushvaneth_cells_pulse.Reads as plain-pulse-reads
+use Rattle.entry_pulses.proofs.dushvaneth_explain as explain
+use Rattle.entry_pulses.proofs.dushvaneth_explain.Kinds as explain-kinds
+use Rattle.entry_pulses.proofs.dushvaneth_explain.Reads as explain-reads
 use Rattle.entry_pulses.proofs.dushvaneth_scan as scan
 use Rattle.entry_pulses.proofs.dushvaneth_scan.Kinds as scan-kinds
 use Rattle.entry_pulses.proofs.dushvaneth_scan.Reads as scan-reads
@@ -90,6 +95,10 @@ pulse-not-8 : (m : Machine) (rs : List ℕ) (l room : ℕ) → pulses.pulseTold 
 unfolding pulses.pulseTold
 pulse-not-8 m rs l room e =
     answer-not-8 (answerBy (pulses.pulseEntry m rs l room) answered.Refused (answered.Done (countOf m (panelOf rs) (linesOf l)) (readOf m (panelOf rs) (linesOf l)))) e
+
+explain-not-8 : (m : Machine) (rs : List ℕ) (w room : ℕ) → pulses.explainedTold m rs w room .refusal ≡ 8 → ⊥
+unfolding pulses.explainedTold
+explain-not-8 m rs w room e = explained-not-8 (answerBy (pulses.explainEntry m rs w room) explains.Refused (reasonAt m (panelOf rs) (record { 0 = w }))) e
 
 resolution-not-8 : (key care : ℕ) (m : Machine) (room : ℕ) → pulses.resolvedTold key care m room .refusal ≡ 8 → ⊥
 unfolding pulses.resolvedTold
@@ -143,6 +152,10 @@ wide-pulse-entry-not-8 κs a r s h e = pulse-not-8 _ _ _ _ (sym (h .0) ∙ e)
 pub plain-pulse-entry-not-8 : (κs : Lfts 4) (a : ArgsD plain-pulse.signature κs) (r : ResD plain-pulse.signature κs) (s : AtExit (endedOf 4 plain-pulse-kinds.ps plain-pulse-kinds.r) κs)
     → plain-pulse-reads.Post κs a r s → r ≡ 8 → ⊥
 plain-pulse-entry-not-8 κs a r s h e = pulse-not-8 _ _ _ _ (sym (h .0) ∙ e)
+
+pub explain-entry-not-8 : (κs : Lfts 4) (a : ArgsD explain.signature κs) (r : ResD explain.signature κs) (s : AtExit (endedOf 4 explain-kinds.ps explain-kinds.r) κs)
+    → explain-reads.Post κs a r s → r ≡ 8 → ⊥
+explain-entry-not-8 κs a r s h e = explain-not-8 _ _ _ _ (sym (h .0) ∙ e)
 
 pub scan-entry-not-8 : (κs : Lfts 3) (a : ArgsD scan.signature κs) (r : ResD scan.signature κs) (s : AtExit (endedOf 3 scan-kinds.ps scan-kinds.r) κs)
     → scan-reads.Post κs a r s → r ≡ 8 → ⊥

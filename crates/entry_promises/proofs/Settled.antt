@@ -16,6 +16,9 @@ use Rattle.entry_pulses.proofs.dushvaneth_wide_pulse.Reads as wide-pulse-reads
 use Rattle.entry_pulses.proofs.dushvaneth_cells_pulse as plain-pulse
 use Rattle.entry_pulses.proofs.dushvaneth_cells_pulse.Kinds as plain-pulse-kinds
 use Rattle.entry_pulses.proofs.dushvaneth_cells_pulse.Reads as plain-pulse-reads
+use Rattle.entry_pulses.proofs.dushvaneth_explain as explain
+use Rattle.entry_pulses.proofs.dushvaneth_explain.Kinds as explain-kinds
+use Rattle.entry_pulses.proofs.dushvaneth_explain.Reads as explain-reads
 use Rattle.entry_pulses.proofs.dushvaneth_scan as scan
 use Rattle.entry_pulses.proofs.dushvaneth_scan.Kinds as scan-kinds
 use Rattle.entry_pulses.proofs.dushvaneth_scan.Reads as scan-reads
@@ -58,6 +61,10 @@ wide-pulse-settled κs a r r′ s s′ h g = (h .0 ∙ sym (g .0), h .1 .0 ∙ s
 pub plain-pulse-settled : (κs : Lfts 4) (a : ArgsD plain-pulse.signature κs) (r r′ : ResD plain-pulse.signature κs) (s s′ : AtExit (endedOf 4 plain-pulse-kinds.ps plain-pulse-kinds.r) κs)
     → plain-pulse-reads.Post κs a r s → plain-pulse-reads.Post κs a r′ s′ → (r ≡ r′) × (now (s .1 .1 .1 .1 .1 .0) ≡ now (s′ .1 .1 .1 .1 .1 .0)) × (now (s .0) ≡ now (s′ .0)) × (now (s .1 .0) ≡ now (s′ .1 .0))
 plain-pulse-settled κs a r r′ s s′ h g = (h .0 ∙ sym (g .0), h .1 .0 ∙ sym (g .1 .0), h .1 .1 .0 ∙ sym (g .1 .1 .0), h .1 .1 .1 ∙ sym (g .1 .1 .1))
+
+pub explain-settled : (κs : Lfts 4) (a : ArgsD explain.signature κs) (r r′ : ResD explain.signature κs) (s s′ : AtExit (endedOf 4 explain-kinds.ps explain-kinds.r) κs)
+    → explain-reads.Post κs a r s → explain-reads.Post κs a r′ s′ → (r ≡ r′) × (now (s .1 .1 .1 .1 .1 .0) ≡ now (s′ .1 .1 .1 .1 .1 .0))
+explain-settled κs a r r′ s s′ h g = (h .0 ∙ sym (g .0), h .1 ∙ sym (g .1))
 
 pub scan-settled : (κs : Lfts 3) (a : ArgsD scan.signature κs) (r r′ : ResD scan.signature κs) (s s′ : AtExit (endedOf 3 scan-kinds.ps scan-kinds.r) κs)
     → scan-reads.Post κs a r s → scan-reads.Post κs a r′ s′ → (r ≡ r′) × (now (s .1 .1 .1 .1 .1 .0) ≡ now (s′ .1 .1 .1 .1 .1 .0))

@@ -7,6 +7,8 @@ use Rattle.entry_pulses.proofs.dushvaneth_wide_pulse as wide-pulse
 use Rattle.entry_pulses.proofs.dushvaneth_wide_pulse.Reads as wide-pulse-reads
 use Rattle.entry_pulses.proofs.dushvaneth_cells_pulse as plain-pulse
 use Rattle.entry_pulses.proofs.dushvaneth_cells_pulse.Reads as plain-pulse-reads
+use Rattle.entry_pulses.proofs.dushvaneth_explain as explain
+use Rattle.entry_pulses.proofs.dushvaneth_explain.Reads as explain-reads
 use Rattle.entry_pulses.proofs.dushvaneth_scan as scan
 use Rattle.entry_pulses.proofs.dushvaneth_scan.Reads as scan-reads
 use Rattle.entry_pulses.proofs.dushvaneth_network as network
@@ -36,6 +38,9 @@ wide-pulse-takes-any κs a = tt
 
 pub plain-pulse-takes-any : (κs : Lfts 4) (a : ArgsD plain-pulse.signature κs) → plain-pulse-reads.Pre κs a
 plain-pulse-takes-any κs a = tt
+
+pub explain-takes-any : (κs : Lfts 4) (a : ArgsD explain.signature κs) → explain-reads.Pre κs a
+explain-takes-any κs a = tt
 
 pub scan-takes-any : (κs : Lfts 3) (a : ArgsD scan.signature κs) → scan-reads.Pre κs a
 scan-takes-any κs a = tt

@@ -1,4 +1,4 @@
--- What each arm of an entry point comes to: one law for both pulses, one for both resolutions.
+-- What each arm of an entry point comes to: one law for both pulses, one for the explainer, one for both resolutions.
 use Prim.Native.Nat.{ℕ, _+_}
 use mathlib.Core.Path.{_≡_, refl, sym, ap, ap₂, _∙_}
 use mathlib.Core.Bool.{not}
@@ -11,6 +11,7 @@ use borrow.Author.Tests.{eqb-true, not-false}
 use Rattle.laws.specs.Bits.{pick}
 use Rattle.machine.specs.declared.Panel.{Panel}
 use Rattle.machine.specs.declared.Lines.{Lines}
+use Rattle.machine.specs.declared.WordSlice.{WordSlice}
 use Rattle.machine.specs.declared.Refusal.{Refusal}
 use Rattle.machine.specs.declared.Refusal.the-variants.{Size, PanelTooWide}
 use Rattle.machine.specs.declared.Check.{Check}
@@ -24,13 +25,17 @@ use Rattle.machine.specs.Resolution.{resolved}
 use Rattle.machine.specs.Refusals.{refuse, machineCheck, pulseCheck, answerOf, changeBy, after, numberOf, told}
 use Rattle.machine.proofs.Refusals.{else-passed, not-refused}
 use Rattle.panel.specs.Numbered.{takes}
+use Rattle.explainer.specs.declared.Explained.{Explained}
+use Rattle.explainer.specs.declared.Explained.the-variants as explains
+use Rattle.explainer.specs.Reasons as reasons
+use Rattle.explainer.specs.Reasons.{explainCheck, reasonAt, explained}
 use Rattle.resolver.specs.declared.Resolved.{Resolved}
 use Rattle.resolver.specs.declared.Resolved.the-variants as found
 use Rattle.resolver.specs.Answers as resolving
 use Rattle.entry_forms.specs.Numbers.{lowerOf, lower, panelSize, panelCheck, panelIn, linesOf, roomCheck, tellIn, resolvedSize, resolvedNumbers}
 use Rattle.entry_forms.proofs.Numbers.{panel-in, check-in}
 use Rattle.entry_forms.proofs.Entering.{Tells, told-passed, told-refused, left-passed, left-refused}
-use Rattle.entry_pulses.specs.Entries.{loadCheck, loadNumber, loaded, pulseNumbers, pulseOwn, pulseEntry, pulseTold, pulseLeft, resolvedTold}
+use Rattle.entry_pulses.specs.Entries.{loadCheck, loadNumber, loaded, pulseNumbers, pulseOwn, pulseEntry, pulseTold, pulseLeft, explainedNumbers, explainOwn, explainEntry, explainedTold, resolvedTold}
 
 lower-passed : (c d : Check) → lower c d ≡ Passed → (c ≡ Passed) × (d ≡ Passed)
 lower-passed Passed d h = (refl, h)
@@ -112,6 +117,40 @@ module _ (m : Machine) (rs : List ℕ) (line : ℕ) (d : List ℕ) (own : Check)
       (io ∙ ap₂ (pulseCheck m) ip il ∙ check-in m rs (linesOf line)) iw t in
       let lent = left-refused (pulseOwn rs line (length d)) call own is left m why q (λ r. refl) in
       (u .0, (u .1, (ap (λ (x : Machine). x .words) lent, ap (λ (x : Machine). x .responses) lent)))
+
+-- ---- the explainer
+
+abbrev pub explainedRefusal : Explained → ℕ
+explainedRefusal a = reasons.told a .refusal
+
+abbrev pub explainedNumbered : Explained → List ℕ
+explainedNumbered a = explainedNumbers (reasons.told a)
+
+-- key, care and target are not judged
+explain-in : (m : Machine) (rs : List ℕ) (w : WordSlice) → explainCheck m (panelIn rs) w ≡ explainCheck m (panelOf rs) w
+unfolding explainCheck
+explain-in m rs w = rw (check-in m rs reasons.searching)
+
+module _ (m : Machine) (rs : List ℕ) (w : ℕ) (d : List ℕ) (own : Check) (is : own ≡ explainOwn rs (length d)) (k : ℕ) (e : List ℕ) where
+  abbrev at : WordSlice
+  at = record { 0 = w }
+
+  abbrev pub Explanation : Type 0
+  Explanation = let t = explainedTold m rs w (length d) in (k ≡ t .refusal) × (e ≡ tellIn (explainedNumbers t) d)
+
+  pub explain-passed : (p : Panel) (a : Explained) → own ≡ Passed → p ≡ panelIn rs → a ≡ explained m p at → Tells explainedRefusal explainedNumbered a d k e → Explanation
+  unfolding explainedTold explainEntry explained
+  explain-passed p a q ip ia t =
+      let whole = ip ∙ panel-in rs (lower-passed (panelCheck rs) _ (sym is ∙ q) .0) in
+      told-passed (explainOwn rs (length d)) (explainCheck m (panelOf rs) at) own is explainedRefusal explainedNumbered explains.Refused (reasonAt m (panelOf rs) at)
+      d k e a q (ia ∙ ap (λ (p : Panel). explained m p at) whole) t
+
+  pub explain-refused : (p : Panel) (why low : Refusal) (other : Check) → own ≡ Refused why → p ≡ panelIn rs → other ≡ explainCheck m p at → low ≡ lowerOf why other
+      → Tells explainedRefusal explainedNumbered (explains.Refused low) d k e → Explanation
+  unfolding explainedTold explainEntry
+  explain-refused p why low other q ip io iw t =
+      told-refused (explainOwn rs (length d)) (explainCheck m (panelOf rs) at) own is explainedRefusal explainedNumbered explains.Refused (reasonAt m (panelOf rs) at)
+      d k e other why low q (io ∙ ap (λ (p : Panel). explainCheck m p at) ip ∙ explain-in m rs at) iw t
 
 -- ---- both resolutions
 

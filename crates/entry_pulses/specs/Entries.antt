@@ -1,4 +1,4 @@
--- The panel's load, both pulses and resolution for callers in other languages: what is refused, told and left (house, but for the calls' own
+-- The panel's load, both pulses, the explainer and resolution for callers in other languages: what is refused, told and left (house, but for the calls' own
 -- definitions; docs/DECISIONS.md, 'The library for C').
 use Prim.Native.Nat.{ℕ}
 use mathlib.Core.Bool.{not}
@@ -13,6 +13,8 @@ use Rattle.machine.specs.Pulse.{countOf, readOf, pulsed}
 use Rattle.machine.specs.Resolution.{resolved}
 use Rattle.machine.specs.Refusals.{refuse, machineCheck, pulseCheck, answerBy, changeBy, numberOf, Told, told}
 use Rattle.panel.specs.Numbered.{takes}
+use Rattle.explainer.specs.declared.Explained.the-variants as explains
+use Rattle.explainer.specs.Reasons as reasons
 use Rattle.resolver.specs.declared.Resolved.the-variants as found
 use Rattle.resolver.specs.Answers as resolving
 use Rattle.entry_forms.specs.Numbers.{lower, panelCheck, linesOf, linesCheck, roomCheck, resolvedSize}
@@ -52,6 +54,25 @@ pulseTold m registers lines room =
 
 unfoldable pub pulseLeft : Machine → List ℕ → ℕ → ℕ → Machine
 pulseLeft m registers lines room = changeBy (pulseEntry m registers lines room) (pulsed m (panelOf registers) (linesOf lines)) m
+
+-- ---- the explainer
+
+abbrev pub explainedSize : ℕ
+explainedSize = 5
+
+abbrev pub explainedNumbers : reasons.Told → List ℕ
+explainedNumbers t = t .refusal ∷ t .also ∷ t .answer ∷ t .syllable ∷ t .bit ∷ []
+
+-- what its arguments are refused for by themselves: panel, room for the answer
+abbrev pub explainOwn : List ℕ → ℕ → Check
+explainOwn registers room = lower (panelCheck registers) (roomCheck explainedSize room)
+
+unfoldable pub explainEntry : Machine → List ℕ → ℕ → ℕ → Check
+explainEntry m registers word room = lower (explainOwn registers room) (reasons.explainCheck m (panelOf registers) (record { 0 = word }))
+
+unfoldable pub explainedTold : Machine → List ℕ → ℕ → ℕ → reasons.Told
+explainedTold m registers word room =
+    reasons.told (answerBy (explainEntry m registers word room) explains.Refused (reasons.reasonAt m (panelOf registers) (record { 0 = word })))
 
 -- ---- resolution
 

@@ -1,6 +1,6 @@
-// Entry points for programs in other languages: the panel's load, both machines' pulses, and resolution. Each takes its arguments apart and
-// calls; include/dushvaneth.h tells callers.
-// Document 01: 'The machine', 'One pulse', Resolution.
+// Entry points for programs in other languages: the panel's load, both machines' pulses, the explainer, and resolution. Each takes its arguments
+// apart and calls; include/dushvaneth.h tells callers.
+// Document 01: 'The machine', 'One pulse', Resolution; document 02, request e.
 use entry_forms::RESOLVED_SIZE;
 use entry_forms::check_lines;
 use entry_forms::check_panel;
@@ -11,11 +11,13 @@ use entry_forms::lower_of;
 use entry_forms::panel_of;
 use entry_forms::tell;
 use entry_forms::tell_resolved;
+use explainer::Explained;
 use machine::Answer;
 use machine::Check;
 use machine::Panel;
 use machine::Refusal;
 use machine::Response;
+use machine::WordSlice;
 use machine::refuse;
 use resolver::Resolved;
 ghost use mathlib.Core.Path.{_≡_};
@@ -24,6 +26,7 @@ ghost use lib.ListN.{length};
 ghost use Rattle.machine.specs.Machine.{machine};
 ghost use Rattle.machine.specs.Panel.{registers};
 ghost use Rattle.machine.specs.Refusals.{told};
+ghost use Rattle.explainer.specs.Reasons as reasons;
 ghost use Rattle.entry_forms.specs.Numbers.{tellIn, resolvedNumbers, panelSize};
 ghost use Rattle.entry_pulses.specs.Entries as entries;
 
@@ -155,6 +158,76 @@ pub extern "C" fn dushvaneth_cells_pulse(
         Check::Refused(why) => {
             let other = cells::check(words, responses, width, panel, raised);
             tell_pulse(answer, Answer::Refused(lower_of(why, other)))
+        }
+    }
+}
+
+// ---- the explainer
+
+const EXPLAINED_SIZE: usize = 5;
+
+fn check_explain(registers: &[u64], room: usize) -> Check
+    ensures { λ r. ⌜ r ≡ entries.explainOwn (now (registers .entry)) room ⌝ }
+{
+    lower(check_panel(registers), check_room(EXPLAINED_SIZE, room))
+}
+
+fn tell_explained(answer: &mut [u64], given: Explained) -> u32
+    ensures { λ r. ⌜ r ≡ reasons.told given .refusal ⌝ }
+    ensures { λ _. ⌜ now (answer .exit) ≡ tellIn (entries.explainedNumbers (reasons.told given)) (now (answer .entry)) ⌝ }
+{
+    match given {
+        Explained::Matched => {
+            let numbers = [0, 0, 1, 0, 0];
+            tell(answer, &numbers);
+            0
+        }
+        Explained::NotSelected(bit) => {
+            let numbers = [0, 0, 2, 0, bit.0 as u64];
+            tell(answer, &numbers);
+            0
+        }
+        Explained::Against { syllable, bit } => {
+            let numbers = [0, 0, 3, syllable.0 as u64, bit.0 as u64];
+            tell(answer, &numbers);
+            0
+        }
+        Explained::EqualToTheBottom(syllable) => {
+            let numbers = [0, 0, 4, syllable.0 as u64, 0];
+            tell(answer, &numbers);
+            0
+        }
+        Explained::Refused(why) => {
+            let numbers = [machine::number_of(why), machine::also_of(why), 0, 0, 0];
+            tell(answer, &numbers);
+            entry_forms::number_of(why)
+        }
+    }
+}
+
+#[no_mangle]
+pub extern "C" fn dushvaneth_explain(
+    words: &[u64],
+    responses: &[Response],
+    width: u32,
+    registers: &[u64],
+    word: usize,
+    answer: &mut [u64],
+) -> u32
+    ensures { λ r. ⌜ r ≡ entries.explainedTold (machine width (now (words .entry)) (now (responses .entry))) (now (registers .entry)) word (length (now (answer .entry))) .refusal ⌝ }
+    ensures { λ _. ⌜ now (answer .exit) ≡ tellIn (entries.explainedNumbers (entries.explainedTold (machine width (now (words .entry)) (now (responses .entry))) (now (registers .entry)) word (length (now (answer .entry))))) (now (answer .entry)) ⌝ }
+{
+    let panel = panel_of(registers);
+    let at = WordSlice(word);
+    let own = check_explain(registers, answer.len());
+    match own {
+        Check::Passed => {
+            let given = explainer::explain(words, responses, width, panel, at);
+            tell_explained(answer, given)
+        }
+        Check::Refused(why) => {
+            let other = explainer::check(words, responses, width, panel, at);
+            tell_explained(answer, Explained::Refused(lower_of(why, other)))
         }
     }
 }

@@ -3,6 +3,7 @@ pub mod Loads
 pub mod Machine
 pub mod Search
 pub mod Cells
+pub mod Codes
 pub mod Sums
 pub mod Words
 pub mod Refusals

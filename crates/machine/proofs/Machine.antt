@@ -1,6 +1,6 @@
 -- The syllables tile the word, and a bit starts one exactly if it is a one of SDR or bit N-1.
 use Prim.Native.Nat.{ℕ, zero, suc, _+_, _-_, _≤_, _<_}
-use mathlib.Core.Path.{_≡_, refl, _∙_}
+use mathlib.Core.Path.{_≡_, refl, sym, ap, ap₂, _∙_}
 use mathlib.Core.Bool.{Bool, true, false, _&&_, _||_, or-true, and-false}
 use mathlib.Core.Logic.{_⊎_, inl, inr, ⊎-elim}
 use mathlib.Core.List.{List, [], _∷_}
@@ -8,8 +8,9 @@ use native.Mathlib.Omega.{arith}
 use lib.Dec.{eqb}
 use borrow.Author.Tests.{eq-eqb, ne-eqb}
 use Rattle.laws.specs.Bits.{bit, pick}
+use Rattle.laws.specs.Lists.{all}
 use Rattle.laws.proofs.Digits.{Bit, off, on, tri}
-use Rattle.laws.proofs.Bits.{digit-at}
+use Rattle.laws.proofs.Bits.{digit-at, and-left, and-right}
 use Rattle.machine.specs.Machine.{Syllable, isTop, bottom, downFrom, keep, tops, syllables}
 
 -- ---- the syllables tile the word
@@ -96,3 +97,37 @@ starts-among n s k (suc m) i h g =
 -- "A one in SDR makes that bit the top bit of a syllable .. Bit N-1 always starts a syllable": those, and no other bit
 pub starts-is : (n s i : ℕ) → i < n → starts i (syllables n s) ≡ isTop n s i
 starts-is n s i h = starts-among n s 0 n i (omega arith) (omega arith)
+
+-- ---- a test of all syllables is one of each bit that starts one
+
+module _ (f : Syllable → Bool) (n s : ℕ) where
+  down-among : (i k m : ℕ) → k ≤ i → i < k + m → isTop n s i ≡ true → all f (tops n s k m) ≡ true → f (downFrom s i) ≡ true
+  unfolding all tops
+  down-among i k zero a b t h = absurd (omega arith)
+  down-among i k (suc m) a b t h =
+      ⊎-elim (λ l. down-among i (suc k) m (omega arith) (omega arith) t (later (isTop n s k) h))
+      (⊎-elim (λ e. here (isTop n s k) (ap (isTop n s) e ∙ t) h e) (λ l. absurd (omega arith))) (tri k i)
+    where
+      later : (top : Bool) → all f (keep top (downFrom s k) (tops n s (suc k) m)) ≡ true → all f (tops n s (suc k) m) ≡ true
+      later true h = and-right (f (downFrom s k)) (all f (tops n s (suc k) m)) h
+      later false h = h
+
+      here : (top : Bool) → top ≡ true → all f (keep top (downFrom s k) (tops n s (suc k) m)) ≡ true → k ≡ i → f (downFrom s i) ≡ true
+      here true e h g = ap (λ (x : ℕ). f (downFrom s x)) (sym g) ∙ and-left (f (downFrom s k)) (all f (tops n s (suc k) m)) h
+      here false e h g = cc
+
+  pub all-down : (i : ℕ) → i < n → isTop n s i ≡ true → all f (syllables n s) ≡ true → f (downFrom s i) ≡ true
+  all-down i l = down-among i 0 n (omega arith) (omega arith)
+
+  up-among : (k m : ℕ) → ((i : ℕ) → k ≤ i → i < k + m → isTop n s i ≡ true → f (downFrom s i) ≡ true) → all f (tops n s k m) ≡ true
+  unfolding all tops
+  up-among k zero h = refl
+  up-among k (suc m) h =
+      go (isTop n s k) (h k (omega arith) (omega arith)) (up-among (suc k) m (λ i a b. h i (omega arith) (omega arith)))
+    where
+      go : (top : Bool) → (top ≡ true → f (downFrom s k) ≡ true) → all f (tops n s (suc k) m) ≡ true → all f (keep top (downFrom s k) (tops n s (suc k) m)) ≡ true
+      go true g e = ap₂ (λ (a b : Bool). a && b) (g refl) e
+      go false g e = e
+
+  pub all-up : ((i : ℕ) → i < n → isTop n s i ≡ true → f (downFrom s i) ≡ true) → all f (syllables n s) ≡ true
+  all-up h = up-among 0 n (λ i a b. h i (omega arith))

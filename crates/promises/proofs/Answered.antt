@@ -61,7 +61,12 @@ use Rattle.handout.specs.Whole as whole
 use Rattle.handout.specs.Whole.{isDone, isFaulty, ended, reportOf, afterRound}
 use Rattle.rounds.specs.Round.{shown, showCheck, showOf, roundCheck, answerCheck, replyOf, answeredAt, afterAnswer}
 use Rattle.promises.proofs.Demand2.{byte-too-many}
-use Rattle.promises.proofs.Demand1.{Entry, answer-given, answerTable, first, given, machineTable, pulse-given, pulseTable, read-given, readTable, resolution-given, round-given, roundTable, show-given, showTable, start-given, startTable, step-given, stepsTable, total-given, totalTable, write-given, writeTable}
+use Rattle.explainer.specs.declared.Explained.{Explained}
+use Rattle.explainer.specs.declared.Explained.the-variants as explains
+use Rattle.explainer.specs.Reasons as reasons
+use Rattle.explainer.specs.Reasons.{explainCheck, reasonAt, explained}
+use Rattle.explainer.proofs.Answers.{reason-answers}
+use Rattle.promises.proofs.Demand1.{Entry, answer-given, answerTable, explain-given, explainTable, first, given, machineTable, pulse-given, pulseTable, read-given, readTable, resolution-given, round-given, roundTable, show-given, showTable, start-given, startTable, step-given, stepsTable, total-given, totalTable, write-given, writeTable}
 
 -- ---- the answer tells that number and what it also answers: `tells..` is an answer's, 0 where the call is accepted
 
@@ -70,6 +75,9 @@ tellsAnswer a = (told a .refusal, told a .also)
 
 abbrev pub tellsResolved : Resolved → ℕ × ℕ
 tellsResolved a = (resolver.told a .refusal, resolver.told a .also)
+
+abbrev pub tellsExplained : Explained → ℕ × ℕ
+tellsExplained a = (reasons.told a .refusal, reasons.told a .also)
 
 abbrev pub tellsReport : Report → ℕ × ℕ
 tellsReport a = (whole.told a .refusal, whole.told a .also)
@@ -98,6 +106,10 @@ by-check says turned e (Refused r) done h = e r
 pub pulse-tells : (m : Machine) (p : Panel) (l : Lines) → tellsAnswer (answerOf m p l) ≡ first (pulseTable m p l)
 unfolding answerOf
 pulse-tells m p l = by-check tellsAnswer answer.Refused (λ r. refl) (pulseCheck m p l) _ refl ∙ pulse-given m p l
+
+pub explain-tells : (m : Machine) (p : Panel) (k : WordSlice) → tellsExplained (explained m p k) ≡ first (explainTable m p k)
+unfolding explained
+explain-tells m p k = by-check tellsExplained explains.Refused (λ r. refl) (explainCheck m p k) _ (reason-answers _ p _ _) ∙ explain-given m p k
 
 found-none : (w : Found) → tellsResolved (asResolved w) ≡ (0, 0)
 found-none (At k) = refl
@@ -171,6 +183,17 @@ pub pulse-refused : (m : Machine) (p : Panel) (l : Lines) → (first (pulseTable
     → told (answerOf m p l) ≡ record { refusal = first (pulseTable m p l) .0; also = first (pulseTable m p l) .1; count = 0; read = 0 }
 unfolding answerOf
 pulse-refused m p l = refused told answer.Refused (λ k a. record { refusal = k; also = a; count = 0; read = 0 }) (λ r. refl) (pulseCheck m p l) _ _ (pulse-given m p l)
+
+-- 02 e: the reason at that word
+pub explain-done : (m : Machine) (p : Panel) (k : WordSlice) → first (explainTable m p k) .0 ≡ 0 → explained m p k ≡ reasonAt m p k
+unfolding explained
+explain-done m p k h = rw (accepted (explainCheck m p k) _ (explain-given m p k) h)
+
+pub explain-refused : (m : Machine) (p : Panel) (k : WordSlice) → (first (explainTable m p k) .0 ≡ 0 → ⊥)
+    → reasons.told (explained m p k) ≡ record { refusal = first (explainTable m p k) .0; also = first (explainTable m p k) .1; answer = 0; syllable = 0; bit = 0 }
+unfolding explained
+explain-refused m p k =
+    refused reasons.told explains.Refused (λ n a. record { refusal = n; also = a; answer = 0; syllable = 0; bit = 0 }) (λ r. refl) (explainCheck m p k) _ _ (explain-given m p k)
 
 -- the word found, and 0 and 0 for none
 abbrev pub foundIn : Found → resolver.Told

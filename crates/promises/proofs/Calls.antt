@@ -41,6 +41,8 @@ use Rattle.machine.specs.Resolution.{resolved}
 use Rattle.machine.proofs.Loads.{held, load-that, load-no-other, same-panel}
 use Rattle.panel.specs.Numbered.{takes}
 use Rattle.panel.proofs.Thin.{Value, number, word, signature, ended, clauses}
+use Rattle.explainer.specs.declared.Explained.the-variants as explains
+use Rattle.explainer.specs.Reasons.{explainCheck, reasonAt, explained}
 use Rattle.resolver.specs.declared.Resolved.the-variants as found
 use Rattle.resolver.specs.Answers.{asResolved, resolution}
 use Rattle.rounds.specs.declared.Reply.the-variants as reply
@@ -65,14 +67,17 @@ use Rattle.image.specs.declared.Read.{Read}
 use Rattle.image.specs.declared.Read.the-variants as back
 use Rattle.image.specs.declared.Wrote.the-variants as wrote
 use Rattle.image.specs.Calls.{writeCheck, writeOf, written, readCheck, readOf, wordsRead, responsesRead}
-use Rattle.promises.proofs.Answered.{passes, tellsAnswer, tellsResolved, tellsReport, tellsStarted, tellsStepped, tellsTotal, tellsWrote, tellsRead, pulse-tells, resolution-tells, show-tells, answer-tells, round-tells, start-tells, step-tells, total-tells, write-tells, read-tells, pulse-unchanged, answer-unchanged, round-unchanged, step-unchanged, write-unchanged, read-unchanged}
-use Rattle.promises.proofs.Demand1.{Entry, first, given, machineTable, pulseTable, showTable, answerTable, roundTable, startTable, stepsTable, totalTable, writeTable, readTable, pulse-given, resolution-given, show-given, answer-given, round-given, start-given, step-given, total-given, write-given, read-given}
+use Rattle.promises.proofs.Answered.{passes, tellsAnswer, tellsExplained, tellsResolved, tellsReport, tellsStarted, tellsStepped, tellsTotal, tellsWrote, tellsRead, pulse-tells, explain-tells, resolution-tells, show-tells, answer-tells, round-tells, start-tells, step-tells, total-tells, write-tells, read-tells, pulse-unchanged, answer-unchanged, round-unchanged, step-unchanged, write-unchanged, read-unchanged}
+use Rattle.promises.proofs.Demand1.{Entry, first, given, machineTable, pulseTable, explainTable, showTable, answerTable, roundTable, startTable, stepsTable, totalTable, writeTable, readTable, pulse-given, explain-given, resolution-given, show-given, answer-given, round-given, start-given, step-given, total-given, write-given, read-given}
 use Rattle.cells.proofs.pulse as plain-pulse
 use Rattle.cells.proofs.pulse.Kinds as plain-pulse-kinds
 use Rattle.cells.proofs.pulse.Reads as plain-pulse-reads
 use Rattle.wide.proofs.pulse as wide-pulse
 use Rattle.wide.proofs.pulse.Kinds as wide-pulse-kinds
 use Rattle.wide.proofs.pulse.Reads as wide-pulse-reads
+use Rattle.explainer.proofs.explain as explain
+use Rattle.explainer.proofs.explain.Kinds as explain-kinds
+use Rattle.explainer.proofs.explain.Reads as explain-reads
 use Rattle.resolver.proofs.scan as scan
 use Rattle.resolver.proofs.scan.Kinds as scan-kinds
 use Rattle.resolver.proofs.scan.Reads as scan-reads
@@ -220,6 +225,24 @@ pub wide-pulse-meets : (κs : Lfts 2) (a : ArgsD wide-pulse.signature κs) (r : 
     let lines = a .1 .1 .1 .1 .0 in
     Pulse m panel lines r (machine (m .width) (now (s .0)) (now (s .1 .0)))
 wide-pulse-meets κs a r s h = a-pulse (machine (a .1 .1 .0) (now (a .0)) (now (a .1 .0))) (a .1 .1 .1 .0) (a .1 .1 .1 .1 .0) r (now (s .0)) (now (s .1 .0)) (h .0) (h .1 .0) (h .1 .1)
+
+-- ---- the explainer
+
+explain-done : (m : Machine) (p : Panel) (k : WordSlice) → explainCheck m p k ≡ Passed → explained m p k ≡ reasonAt m p k
+unfolding explained
+explain-done m p k = taken explains.Refused _ (explainCheck m p k)
+
+pub explain-meets : (κs : Lfts 2) (a : ArgsD explain.signature κs) (r : ResD explain.signature κs) (s : AtExit (endedOf 2 explain-kinds.ps explain-kinds.r) κs)
+    → explain-reads.Post κs a r s
+    → let m = machine (a .1 .1 .0) (now (a .0)) (now (a .1 .0)) in
+    let panel = a .1 .1 .1 .0 in
+    let word = a .1 .1 .1 .1 .0 in
+    Answers tellsExplained (explainTable m panel word) (explainCheck m panel word) (explained m panel word) (reasonAt m panel word) r
+explain-meets κs a r s h =
+    let m = machine (a .1 .1 .0) (now (a .0)) (now (a .1 .0)) in
+    let p = a .1 .1 .1 .0 in
+    let k = a .1 .1 .1 .1 .0 in
+    answers-by tellsExplained (explainCheck m p k) (explained m p k) r (explain-tells m p k) (explain-given m p k) (explain-done m p k) h
 
 -- ---- resolution
 

@@ -1,10 +1,9 @@
 -- Demand 2, of a search with SC3 (document 02, request c): "With a one there over a cared bit, larger becomes at least and smaller at most: equal at the
 -- bottom also satisfies. Jobs set it to 0."
-use Prim.Native.Nat.{ℕ, zero, suc, _+_, _≤_, _<_}
+use Prim.Native.Nat.{ℕ, suc, _+_, _<_}
 use mathlib.Core.Path.{_≡_, refl, sym, ap, ap₂, _∙_}
-use mathlib.Core.Bool.{Bool, true, false, _&&_}
+use mathlib.Core.Bool.{Bool, true, false}
 use mathlib.Core.Logic.{_⊎_, inl, inr, ⊎-elim}
-use native.Mathlib.Omega.{arith}
 use lib.Dec.{ltb, leb, eqb}
 use borrow.Author.Tests.{not-false}
 use contract.Lifetimes.{Lfts}
@@ -13,20 +12,19 @@ use borrow.Fn.Kinds.{endedOf}
 use denote.Triple.Clauses.{AtExit}
 use denote.Ref.{now}
 use Rattle.laws.specs.Bits.{every, pick}
-use Rattle.laws.specs.Lists.{all}
-use Rattle.laws.proofs.Digits.{tri}
-use Rattle.laws.proofs.Bits.{every-like, every-all, every-at, and-left, and-right, or-cases}
+use Rattle.laws.proofs.Bits.{every-like, every-all, every-at}
 use Rattle.machine.specs.declared.Panel.{Panel}
 use Rattle.machine.specs.declared.Lines.{Lines}
 use Rattle.machine.specs.declared.Code.{Code}
 use Rattle.machine.specs.declared.Code.the-variants.{DontCare, Exact, Larger, Smaller}
 use Rattle.machine.specs.declared.Check.the-variants.{Passed}
-use Rattle.machine.specs.Machine.{Machine, machine, Syllable, isTop, downFrom, keep, tops}
-use Rattle.machine.specs.Search.{codeAt, byCode, eachCode, orEqual, eachBit, oneCode, orUnset, orSet, oneSetting, comparedOnly, unmixed, cared, readOver, asks, satisfied}
+use Rattle.machine.specs.Machine.{Machine, machine, Syllable, isTop, downFrom}
+use Rattle.machine.specs.Search.{codeAt, byCode, eachCode, orEqual, oneCode, unmixed, cared, readOver, asks, satisfied}
 use Rattle.machine.specs.Refusals.{badCodes, pulseCheck}
 use Rattle.machine.proofs.Refusals as checks
 use Rattle.machine.proofs.Search.{unset, unmixed-is}
-use Rattle.machine.proofs.Cells.{carried}
+use Rattle.machine.proofs.Codes.{is-cared, one-code, one-setting}
+use Rattle.machine.proofs.Machine.{all-down}
 use Rattle.job_plans.specs.declared.Job.{Job}
 use Rattle.job_plans.specs.declared.Held.{Held}
 use Rattle.job_plans.specs.declared.Held.the-variants as held
@@ -53,21 +51,6 @@ every-any k f false each j l e = go (every k f) refl
     go true h = sym (every-at k f h j l) ∙ e
     go false h = refl
 
-unset-off : (d : Code) (e : Bool) → (d ≡ DontCare → ⊥) → orUnset d e ≡ true → e ≡ false
-unset-off DontCare e n h = absurd (n refl)
-unset-off Exact true n h = sym h
-unset-off Exact false n h = refl
-unset-off Larger true n h = sym h
-unset-off Larger false n h = refl
-unset-off Smaller true n h = sym h
-unset-off Smaller false n h = refl
-
-set-on : (d : Code) (e : Bool) → (d ≡ DontCare → ⊥) → orSet d e ≡ true → e ≡ true
-set-on DontCare e n h = absurd (n refl)
-set-on Exact e n h = h
-set-on Larger e n h = h
-set-on Smaller e n h = h
-
 module _ (p : Panel) (y : Syllable) (fair : unmixed p y ≡ true) where
   abbrev at : ℕ → Code
   at j = codeAt p (y .low + j)
@@ -75,53 +58,23 @@ module _ (p : Panel) (y : Syllable) (fair : unmixed p y ≡ true) where
   abbrev set : ℕ → Bool
   set j = orEqual p (y .low + j)
 
-  settings : oneSetting p y ≡ true
-  settings = and-left (oneSetting p y) (comparedOnly p y) (and-right (oneCode p y) (oneSetting p y && comparedOnly p y) fair)
-
-  one-code : (i j : ℕ) → i < y .width → j < y .width → (at i ≡ DontCare → ⊥) → (at j ≡ DontCare → ⊥) → at i ≡ at j
-  one-code i j hi hj ni nj =
-      let c = carried p y (and-left (oneCode p y) (oneSetting p y && comparedOnly p y) fair) in
-      ⊎-elim (λ e. absurd (ni e)) (λ e. e) (c .1 i hi) ∙ sym (⊎-elim (λ e. absurd (nj e)) (λ e. e) (c .1 j hj))
-
-  one-setting : (i j : ℕ) → i < y .width → j < y .width → (at i ≡ DontCare → ⊥) → (at j ≡ DontCare → ⊥) → set i ≡ set j
-  unfolding oneSetting
-  one-setting i j hi hj ni nj =
-      ⊎-elim (λ h. unset-off (at i) (set i) ni (every-at (y .width) (λ k. orUnset (at k) (set k)) h i hi) ∙ sym (unset-off (at j) (set j) nj (every-at (y .width) (λ k. orUnset (at k) (set k)) h j hj)))
-      (λ h. set-on (at i) (set i) ni (every-at (y .width) (λ k. orSet (at k) (set k)) h i hi) ∙ sym (set-on (at j) (set j) nj (every-at (y .width) (λ k. orSet (at k) (set k)) h j hj)))
-      (or-cases (eachBit p y orUnset) (eachBit p y orSet) settings)
-
   pub asked-by : (w j : ℕ) → j < y .width → (at j ≡ DontCare → ⊥) → satisfied p w y ≡ asks (at j) (set j) (readOver p y w) (readOver p y (p .comp))
   unfolding satisfied
   asked-by w j hj nj = every-any (y .width) _ _ (λ i hi. go i hi (at i) refl) j hj refl
     where
       same : (i : ℕ) → i < y .width → (at i ≡ DontCare → ⊥)
           → asks (at i) (set i) (readOver p y w) (readOver p y (p .comp)) ≡ asks (at j) (set j) (readOver p y w) (readOver p y (p .comp))
-      same i hi ni = ap₂ (λ (d : Code) (e : Bool). asks d e (readOver p y w) (readOver p y (p .comp))) (one-code i j hi hj ni nj) (one-setting i j hi hj ni nj)
+      same i hi ni = ap₂ (λ (d : Code) (e : Bool). asks d e (readOver p y w) (readOver p y (p .comp))) (one-code p y fair i j hi hj ni nj) (one-setting p y fair i j hi hj ni nj)
 
       go : (i : ℕ) → i < y .width → (d : Code) → at i ≡ d
           → (asks (at i) (set i) (readOver p y w) (readOver p y (p .comp)) ≡ true)
           ⊎ (asks (at i) (set i) (readOver p y w) (readOver p y (p .comp)) ≡ asks (at j) (set j) (readOver p y w) (readOver p y (p .comp)))
       go i hi DontCare e = inl (ap (λ (d : Code). asks d (set i) (readOver p y w) (readOver p y (p .comp))) e)
-      go i hi Exact e = inr (same i hi (λ z. omega (arith, ap (λ (d : Code). cared d 1) (sym e ∙ z))))
-      go i hi Larger e = inr (same i hi (λ z. omega (arith, ap (λ (d : Code). cared d 1) (sym e ∙ z))))
-      go i hi Smaller e = inr (same i hi (λ z. omega (arith, ap (λ (d : Code). cared d 1) (sym e ∙ z))))
+      go i hi Exact e = inr (same i hi (is-cared (at i) (ap (λ (d : Code). cared d 1) e)))
+      go i hi Larger e = inr (same i hi (is-cared (at i) (ap (λ (d : Code). cared d 1) e)))
+      go i hi Smaller e = inr (same i hi (is-cared (at i) (ap (λ (d : Code). cared d 1) e)))
 
 -- ---- of an accepted search, and each of its syllables: the one whose top bit is bit i
-
-all-down : (f : Syllable → Bool) (n s i k m : ℕ) → k ≤ i → i < k + m → isTop n s i ≡ true → all f (tops n s k m) ≡ true → f (downFrom s i) ≡ true
-unfolding all tops
-all-down f n s i k zero a b t h = absurd (omega arith)
-all-down f n s i k (suc m) a b t h =
-    ⊎-elim (λ l. all-down f n s i (suc k) m (omega arith) (omega arith) t (later (isTop n s k) h))
-    (⊎-elim (λ e. here (isTop n s k) (ap (isTop n s) e ∙ t) h e) (λ l. absurd (omega arith))) (tri k i)
-  where
-    later : (top : Bool) → all f (keep top (downFrom s k) (tops n s (suc k) m)) ≡ true → all f (tops n s (suc k) m) ≡ true
-    later true h = and-right (f (downFrom s k)) (all f (tops n s (suc k) m)) h
-    later false h = h
-
-    here : (top : Bool) → top ≡ true → all f (keep top (downFrom s k) (tops n s (suc k) m)) ≡ true → k ≡ i → f (downFrom s i) ≡ true
-    here true e h g = ap (λ (x : ℕ). f (downFrom s x)) (sym g) ∙ and-left (f (downFrom s k)) (all f (tops n s (suc k) m)) h
-    here false e h g = cc
 
 module _ (m : Machine) (p : Panel) (l : Lines) (accepted : pulseCheck m p l ≡ Passed) (raised : l .search ≡ true)
     (i : ℕ) (within : i < m .width) (top : isTop (m .width) (p .sdr) i ≡ true) where
@@ -131,21 +84,23 @@ module _ (m : Machine) (p : Panel) (l : Lines) (accepted : pulseCheck m p l ≡ 
   pub syllable-unmixed : unmixed p y ≡ true
   unfolding badCodes
   syllable-unmixed =
-      all-down (unmixed p) (m .width) (p .sdr) i 0 (m .width) (omega arith) (omega arith) top
+      all-down (unmixed p) (m .width) (p .sdr) i within top
       (not-false _ (rw raised at (checks.clean m p l accepted .codes)))
 
   module _ (w j : ℕ) (inside : j < y .width) where
+    -- a cared bit asks for its whole syllable
+    asked : (d : Code) → cared d 1 ≡ 1 → codeAt p (y .low + j) ≡ d → orEqual p (y .low + j) ≡ true → satisfied p w y ≡ asks d true (readOver p y w) (readOver p y (p .comp))
+    asked d c h e =
+        asked-by p y syllable-unmixed w j inside (is-cared (codeAt p (y .low + j)) (ap (λ (d : Code). cared d 1) h ∙ c))
+        ∙ ap₂ (λ (d : Code) (e : Bool). asks d e (readOver p y w) (readOver p y (p .comp))) h e
+
     -- "larger becomes at least": the word's number is not below COMP's
     pub at-least : codeAt p (y .low + j) ≡ Larger → orEqual p (y .low + j) ≡ true → satisfied p w y ≡ leb (readOver p y (p .comp)) (readOver p y w)
-    at-least d e =
-        asked-by p y syllable-unmixed w j inside (λ z. omega (arith, ap (λ (d : Code). cared d 1) (sym d ∙ z)))
-        ∙ ap₂ (λ (d : Code) (e : Bool). asks d e (readOver p y w) (readOver p y (p .comp))) d e
+    at-least = asked Larger refl
 
     -- "and smaller at most": it is not above COMP's
     pub at-most : codeAt p (y .low + j) ≡ Smaller → orEqual p (y .low + j) ≡ true → satisfied p w y ≡ leb (readOver p y w) (readOver p y (p .comp))
-    at-most d e =
-        asked-by p y syllable-unmixed w j inside (λ z. omega (arith, ap (λ (d : Code). cared d 1) (sym d ∙ z)))
-        ∙ ap₂ (λ (d : Code) (e : Bool). asks d e (readOver p y w) (readOver p y (p .comp))) d e
+    at-most = asked Smaller refl
 
 -- "For "at least 90 days" staff must search for larger than 89": at least a number is larger than the one before it
 pub one-less : (w c : ℕ) → asks Larger true w (suc c) ≡ asks Larger false w c

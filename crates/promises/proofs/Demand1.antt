@@ -4,12 +4,12 @@
 -- tells, and that nothing lent changes.
 use Prim.Native.Nat.{ℕ, _+_}
 use mathlib.Core.Path.{_≡_, refl, sym, ap, _∙_}
-use mathlib.Core.Bool.{Bool, true, false, not, _&&_, _||_}
-use native.Mathlib.Omega.{arith}
+use mathlib.Core.Bool.{Bool, true, false, not, _||_}
 use lib.Dec.{ltb, leb, eqb}
 use mathlib.Core.List.{List, [], _∷_}
 use lib.ListN.{length}
 use Rattle.laws.specs.Bits.{pick}
+use Rattle.laws.specs.Lists.{all}
 use Rattle.machine.specs.declared.Panel.{Panel}
 use Rattle.machine.specs.declared.Lines.{Lines}
 use Rattle.machine.specs.declared.WordSlice.{WordSlice}
@@ -19,13 +19,15 @@ use Rattle.machine.specs.declared.Found.the-variants.{At, Nothing}
 use Rattle.machine.specs.declared.Syllable.{Syllable}
 use Rattle.machine.specs.declared.Syllable.the-variants.{A, B, P}
 use Rattle.machine.specs.declared.Refusal.{Refusal}
-use Rattle.machine.specs.declared.Refusal.the-variants.{Size, Width, PanelTooWide, TwoCodes, WrongLines, NoSuchWord, NoRoom, NotShown}
+use Rattle.machine.specs.declared.Refusal.the-variants.{Size, Width, PanelTooWide, TwoCodes, WrongLines, NoSuchWord, EmptySyllable, BeyondWord, Overlap, NoSuchBit, BitsClash, WrongJob, NoRoom, NotShown}
 use Rattle.machine.specs.declared.Check.{Check}
 use Rattle.machine.specs.declared.Check.the-variants.{Passed, Refused}
-use Rattle.machine.specs.Machine.{Machine, responseBits}
+use Rattle.machine.specs.Machine.{Machine, responseBits, syllables}
+use Rattle.machine.specs.Search.{unmixed}
 use Rattle.machine.specs.Resolution.{lowest}
-use Rattle.machine.specs.Refusals.{badSize, badWidth, tooWide, badPanel, badCodes, badLines, badAddress, inCare, bitCheck, apartCheck, careCheck, _else_, refuse, refuseWord, machineCheck, pulseCheck, valueOf, tells, turn}
+use Rattle.machine.specs.Refusals.{badSize, badWidth, tooWide, badPanel, badCodes, badLines, badAddress, inCare, bitCheck, apartCheck, careCheck, _else_, refuse, refuseWord, machineCheck, commandCheck, pulseCheck, valueOf, tells}
 use Rattle.machine.proofs.Refusals.{else-assoc}
+use Rattle.explainer.specs.Reasons.{searching, explainCheck}
 use Rattle.job_plans.specs.declared.Span.{Span}
 use Rattle.job_plans.specs.declared.Job.{Job}
 use Rattle.job_plans.specs.declared.Held.{Held}
@@ -83,6 +85,14 @@ pulseTable m p l =
     ∷ entry 5 (badCodes (m .width) p l)
     ∷ entry 6 (badLines l)
     ∷ entry 7 (badAddress (length (m .words)) p l)
+    ∷ [])
+
+-- 02 e: "as for a search, with 7 for the word number"
+abbrev pub explainTable : Machine → Panel → WordSlice → List Entry
+explainTable m p k =
+    machineTable m (entry 4 (badPanel (m .width) p)
+    ∷ entry 5 (not (all (unmixed p) (syllables (m .width) (p .sdr))))
+    ∷ entry 7 (leb (length (m .words)) (k .0))
     ∷ [])
 
 -- ---- 20 to 25, condition by condition, and then the rest of a call's table
@@ -211,15 +221,11 @@ of-machine m =
       before = machine-first (badSize (length (m .words)) (length (m .responses))) (badWidth (m .width)) (lowest (tooWide (m .width)) 0 (m .words));
     }
 
-true-false : {A : Type 0} → true ≡ false → A
-true-false e = let z : _≡_ {A = ℕ} 0 1 = cc in absurd (omega arith)
-
--- one entry
-link : (k also : ℕ) (c : Check) (b : Bool) → (b ≡ true → given c ≡ (k, also)) → (b ≡ true → (d : Check) → (c else d) ≡ c) → (b ≡ false → c ≡ Passed)
-    → Tabled c (λ es. record { number = k; also = also; holds = b } ∷ es)
+-- one entry: a refusal by its condition
+leaf : (r : Refusal) (b : Bool) → Tabled (refuse r b) (λ es. record { number = tells r .0; also = tells r .1; holds = b } ∷ es)
 unfolding first
-link k also c true f g h = record { before = λ d es e. rw (g refl d) (f refl) }
-link k also c false f g h = record { before = λ d es e. rw (h refl) e }
+leaf r true = record { before = λ d es e. refl }
+leaf r false = record { before = λ d es e. e }
 
 infixr 20 _then_
 -- one after the other
@@ -237,54 +243,54 @@ whole {c} f = sym (passed-else c) ∙ f .before Passed [] refl
     passed-else (Refused r) = refl
 
 four : (n : ℕ) (p : Panel) → Tabled (refuse PanelTooWide (badPanel n p)) (λ es. entry 4 (badPanel n p) ∷ es)
-four n p = link 4 0 (refuse PanelTooWide (badPanel n p)) (badPanel n p) (λ e. rw e) (λ e d. rw e) (λ e. rw e)
+four n p = leaf PanelTooWide (badPanel n p)
 
 five : (n : ℕ) (p : Panel) (l : Lines) → Tabled (refuse TwoCodes (badCodes n p l)) (λ es. entry 5 (badCodes n p l) ∷ es)
-five n p l = link 5 0 (refuse TwoCodes (badCodes n p l)) (badCodes n p l) (λ e. rw e) (λ e d. rw e) (λ e. rw e)
+five n p l = leaf TwoCodes (badCodes n p l)
 
 six : (l : Lines) → Tabled (refuse WrongLines (badLines l)) (λ es. entry 6 (badLines l) ∷ es)
-six l = link 6 0 (refuse WrongLines (badLines l)) (badLines l) (λ e. rw e) (λ e d. rw e) (λ e. rw e)
+six l = leaf WrongLines (badLines l)
 
 seven : (n : ℕ) (p : Panel) (l : Lines) → Tabled (refuse NoSuchWord (badAddress n p l)) (λ es. entry 7 (badAddress n p l) ∷ es)
-seven n p l = link 7 0 (refuse NoSuchWord (badAddress n p l)) (badAddress n p l) (λ e. rw e) (λ e d. rw e) (λ e. rw e)
+seven n p l = leaf NoSuchWord (badAddress n p l)
 
 ten : (b : Bool) → Tabled (refuse NoRoom b) (λ es. entry 10 b ∷ es)
-ten b = link 10 0 (refuse NoRoom b) b (λ e. rw e) (λ e d. rw e) (λ e. rw e)
+ten = leaf NoRoom
 
 eleven : (b : Bool) → Tabled (refuse NotShown b) (λ es. entry 11 b ∷ es)
-eleven b = link 11 0 (refuse NotShown b) b (λ e. rw e) (λ e d. rw e) (λ e. rw e)
+eleven = leaf NotShown
 
 -- ---- 20 to 25, leaf by leaf
 
 bit-leaf : (x : ResponseBit) → Tabled (bitCheck x) (λ es. aboveLast x ∷ es)
-bit-leaf x = link 23 0 (bitCheck x) (leb responseBits (x .0)) (λ e. rw e) (λ e d. rw e) (λ e. rw e)
+bit-leaf x = leaf NoSuchBit (leb responseBits (x .0))
 
 apart-leaf : (x y : ResponseBit) → Tabled (apartCheck x y) (λ es. alike x y ∷ es)
-apart-leaf x y = link 24 0 (apartCheck x y) (eqb (x .0) (y .0)) (λ e. rw e) (λ e d. rw e) (λ e. rw e)
+apart-leaf x y = leaf BitsClash (eqb (x .0) (y .0))
 
 care-leaf : (care : ℕ) (x : ResponseBit) → Tabled (careCheck care x) (λ es. amongCare care x ∷ es)
-care-leaf care x = link 24 0 (careCheck care x) (inCare care x) (λ e. rw e) (λ e d. rw e) (λ e. rw e)
+care-leaf care x = leaf BitsClash (inCare care x)
 
 empty-leaf : (name : Syllable) (s : Span) → Tabled (emptyCheck name s) (λ es. empty name s ∷ es)
-empty-leaf name s = link 20 (valueOf name) (emptyCheck name s) (eqb (s .width) 0) (λ e. rw e) (λ e d. rw e) (λ e. rw e)
+empty-leaf name s = leaf (EmptySyllable name) (eqb (s .width) 0)
 
 beyond-leaf : (n : ℕ) (name : Syllable) (s : Span) → Tabled (beyondCheck n name s) (λ es. beyond n name s ∷ es)
-beyond-leaf n name s = link 21 (valueOf name) (beyondCheck n name s) (ltb n (s .low .0 + s .width)) (λ e. rw e) (λ e d. rw e) (λ e. rw e)
+beyond-leaf n name s = leaf (BeyondWord name) (ltb n (s .low .0 + s .width))
 
 shared-leaf : (p : Span) (name : Syllable) (s : Span) → Tabled (overlapCheck p name s) (λ es. shared p name s ∷ es)
-shared-leaf p name s = link 22 (valueOf name) (overlapCheck p name s) (overlaps p s) (λ e. rw e) (λ e d. rw e) (λ e. rw e)
+shared-leaf p name s = leaf (Overlap name) (overlaps p s)
 
 unused-leaf : (o : Job) → Tabled (unusedCheck o) (λ es. wrongJob (not (unusedZero o)) ∷ es)
-unused-leaf o = link 25 0 (unusedCheck o) (not (unusedZero o)) (λ e. rw e) (λ e d. rw e) (λ e. rw e)
+unused-leaf o = leaf WrongJob (not (unusedZero o))
 
 place-leaf : (o : Job) → Tabled (placeCheck o) (λ es. wrongJob (not (inTable o)) ∷ es)
-place-leaf o = link 25 0 (placeCheck o) (not (inTable o)) (λ e. rw e) (λ e d. rw e) (λ e. rw e)
+place-leaf o = leaf WrongJob (not (inTable o))
 
 free-leaf : (h : Held) → Tabled (freeCheck h) (λ es. wrongJob (isHeld h) ∷ es)
-free-leaf h = link 25 0 (freeCheck h) (isHeld h) (λ e. rw e) (λ e d. rw e) (λ e. rw e)
+free-leaf h = leaf WrongJob (isHeld h)
 
 first-leaf : (h : Held) → Tabled (firstCheck h) (λ es. wrongJob (not (isFirst h)) ∷ es)
-first-leaf h = link 25 0 (firstCheck h) (not (isFirst h)) (λ e. rw e) (λ e d. rw e) (λ e. rw e)
+first-leaf h = leaf WrongJob (not (isFirst h))
 
 of-pair : (x f : ResponseBit) → Tabled (pairCheck x f) (pairTable x f)
 unfolding pairCheck
@@ -317,14 +323,14 @@ of-used n o = go (kindOf (o .kind))
     go smallest = of-extreme n o
     go scaledAdd = of-scaled-add n o
     go product = of-product n o
-    go unknown = link 25 0 (usedCheckFor unknown n o) true (λ e. refl) (λ e d. refl) (λ e. true-false e)
+    go unknown = leaf WrongJob true
 
 of-held : (n : ℕ) (o : Job) → Tabled (heldCheck n o) (heldTable n o)
 unfolding heldCheck
 of-held n o = of-used n o then unused-leaf o then place-leaf o
 
 of-step : (n : ℕ) (h : Held) → Tabled (stepHeldCheck n h) (stepTable n h)
-of-step n held.Nothing = link 25 0 (stepHeldCheck n held.Nothing) true (λ e. refl) (λ e d. refl) (λ e. true-false e)
+of-step n held.Nothing = leaf WrongJob true
 of-step n (held.Holds o) = of-held n o
 
 of-jobs : (n : ℕ) (os : List Job) → Tabled (jobsCheck n os) (jobsTable n os)
@@ -337,6 +343,17 @@ pub pulse-given : (m : Machine) (p : Panel) (l : Lines) → given (pulseCheck m 
 unfolding pulseCheck
 pulse-given m p l =
     whole (of-machine m then four (m .width) p then five (m .width) p l then six l then seven (length (m .words)) p l)
+
+-- a search by itself is given neither 6 nor 7
+search-taken : (n : ℕ) (p : Panel) → Tabled (commandCheck n p searching) (λ es. es)
+unfolding badLines badAddress
+search-taken n p = record { before = λ d es h. h }
+
+pub explain-given : (m : Machine) (p : Panel) (k : WordSlice) → given (explainCheck m p k) ≡ first (explainTable m p k)
+unfolding explainCheck pulseCheck badCodes
+explain-given m p k =
+    whole ((of-machine m then four (m .width) p then five (m .width) p searching then search-taken (length (m .words)) p)
+    then leaf NoSuchWord (leb (length (m .words)) (k .0)))
 
 pub resolution-given : (m : Machine) → given (machineCheck m) ≡ first (machineTable m [])
 resolution-given m = whole (of-machine m)

@@ -15,6 +15,8 @@ use Rattle.machine.specs.declared.Answer.the-variants as answer
 use Rattle.machine.specs.Machine.{Machine}
 use Rattle.machine.specs.Refusals.{turn}
 use Rattle.machine.proofs.Refusals.{not-eight}
+use Rattle.explainer.specs.declared.Explained.{Explained}
+use Rattle.explainer.specs.declared.Explained.the-variants as explains
 use Rattle.resolver.specs.declared.Resolved.{Resolved}
 use Rattle.resolver.specs.declared.Resolved.the-variants as resolved
 use Rattle.rounds.specs.declared.Reply.{Reply}
@@ -40,8 +42,8 @@ use Rattle.image.specs.declared.Wrote.{Wrote}
 use Rattle.image.specs.declared.Wrote.the-variants as wrote
 use Rattle.image.specs.declared.Read.{Read}
 use Rattle.image.specs.declared.Read.the-variants as read
-use Rattle.promises.proofs.Demand1.{Entry, entry, malformed, machineTable, usedTable, wrongJob, pulseTable, showTable, roundTable, answerTable, startTable, stepsTable, totalTable, writeTable, readTable}
-use Rattle.promises.proofs.Answered.{tellsAnswer, tellsResolved, tellsReport, tellsStarted, tellsStepped, tellsTotal, tellsWrote, tellsRead}
+use Rattle.promises.proofs.Demand1.{Entry, entry, malformed, machineTable, usedTable, wrongJob, pulseTable, explainTable, showTable, roundTable, answerTable, startTable, stepsTable, totalTable, writeTable, readTable}
+use Rattle.promises.proofs.Answered.{tellsAnswer, tellsExplained, tellsResolved, tellsReport, tellsStarted, tellsStepped, tellsTotal, tellsWrote, tellsRead}
 
 -- ---- every call's table is in the order of the numbers' turns, and of one number in that of the syllables' values
 
@@ -55,6 +57,9 @@ ordered (e ∷ d ∷ es) = follows e d && ordered (d ∷ es)
 
 pub pulse-ordered : (m : Machine) (p : Panel) (l : Lines) → ordered (pulseTable m p l) ≡ true
 pulse-ordered m p l = refl
+
+pub explain-ordered : (m : Machine) (p : Panel) (k : WordSlice) → ordered (explainTable m p k) ≡ true
+explain-ordered m p k = refl
 
 pub resolution-ordered : (m : Machine) → ordered (machineTable m []) ≡ true
 resolution-ordered m = refl
@@ -105,6 +110,13 @@ pub answer-not-8 : (a : Answer) → tellsAnswer a .0 ≡ 8 → ⊥
 answer-not-8 (answer.Done c w) e = omega (arith, e)
 answer-not-8 (answer.Refused r) e = not-eight r e
 
+pub explained-not-8 : (a : Explained) → tellsExplained a .0 ≡ 8 → ⊥
+explained-not-8 explains.Matched e = omega (arith, e)
+explained-not-8 (explains.NotSelected x) e = omega (arith, e)
+explained-not-8 (explains.Against t b) e = omega (arith, e)
+explained-not-8 (explains.EqualToTheBottom t) e = omega (arith, e)
+explained-not-8 (explains.Refused r) e = not-eight r e
+
 pub resolved-not-8 : (a : Resolved) → tellsResolved a .0 ≡ 8 → ⊥
 resolved-not-8 (resolved.At k) e = omega (arith, e)
 resolved-not-8 resolved.Nothing e = omega (arith, e)
@@ -138,11 +150,11 @@ pub read-not-8 : (a : Read) → tellsRead a .0 ≡ 8 → ⊥
 read-not-8 (read.Machine width n held) e = omega (arith, e)
 read-not-8 (read.Refused r) e = not-eight r e
 
--- of all calls: both pulses answer an `Answer`, scan, network and show a `Resolved`, an answer in a round a `Reply`, a whole round a `Report`; start,
--- step, total, writing and reading have an answer's type each
-pub eight-is-retired : ((a : Answer) → tellsAnswer a .0 ≡ 8 → ⊥) × ((a : Resolved) → tellsResolved a .0 ≡ 8 → ⊥)
+-- of all calls: both pulses answer an `Answer`, the explainer an `Explained`, scan, network and show a `Resolved`, an answer in a round a `Reply`, a
+-- whole round a `Report`; start, step, total, writing and reading have an answer's type each
+pub eight-is-retired : ((a : Answer) → tellsAnswer a .0 ≡ 8 → ⊥) × ((a : Explained) → tellsExplained a .0 ≡ 8 → ⊥) × ((a : Resolved) → tellsResolved a .0 ≡ 8 → ⊥)
     × ((a : Reply) → rounds.told a .0 ≡ 8 → ⊥) × ((a : Report) → tellsReport a .0 ≡ 8 → ⊥)
     × ((a : Started) → tellsStarted a .0 ≡ 8 → ⊥) × ((a : Stepped) → tellsStepped a .0 ≡ 8 → ⊥) × ((a : Total) → tellsTotal a .0 ≡ 8 → ⊥)
     × ((a : Wrote) → tellsWrote a .0 ≡ 8 → ⊥) × ((a : Read) → tellsRead a .0 ≡ 8 → ⊥)
 eight-is-retired =
-    (answer-not-8, resolved-not-8, reply-not-8, report-not-8, started-not-8, stepped-not-8, total-not-8, wrote-not-8, read-not-8)
+    (answer-not-8, explained-not-8, resolved-not-8, reply-not-8, report-not-8, started-not-8, stepped-not-8, total-not-8, wrote-not-8, read-not-8)

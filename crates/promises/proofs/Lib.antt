@@ -6,6 +6,7 @@ pub mod Comparing
 pub mod Demand1
 pub mod Demand2
 pub mod Demand3
+pub mod Explaining
 pub mod Figures
 pub mod InOrder
 pub mod JobFigures
@@ -15,3 +16,4 @@ pub mod Rounds
 pub mod Settled
 pub mod TakesAny
 pub mod Totals
+pub mod WhyFigures

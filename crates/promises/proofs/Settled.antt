@@ -21,6 +21,9 @@ use Rattle.cells.proofs.pulse.Reads as plain-pulse-reads
 use Rattle.wide.proofs.pulse as wide-pulse
 use Rattle.wide.proofs.pulse.Kinds as wide-pulse-kinds
 use Rattle.wide.proofs.pulse.Reads as wide-pulse-reads
+use Rattle.explainer.proofs.explain as explain
+use Rattle.explainer.proofs.explain.Kinds as explain-kinds
+use Rattle.explainer.proofs.explain.Reads as explain-reads
 use Rattle.resolver.proofs.scan as scan
 use Rattle.resolver.proofs.scan.Kinds as scan-kinds
 use Rattle.resolver.proofs.scan.Reads as scan-reads
@@ -108,6 +111,10 @@ plain-pulse-settled κs a r r′ s s′ h g = (h .0 ∙ sym (g .0), h .1 .0 ∙ 
 pub wide-pulse-settled : (κs : Lfts 2) (a : ArgsD wide-pulse.signature κs) (r r′ : ResD wide-pulse.signature κs) (s s′ : AtExit (endedOf 2 wide-pulse-kinds.ps wide-pulse-kinds.r) κs)
     → wide-pulse-reads.Post κs a r s → wide-pulse-reads.Post κs a r′ s′ → (r ≡ r′) × (now (s .0) ≡ now (s′ .0)) × (now (s .1 .0) ≡ now (s′ .1 .0))
 wide-pulse-settled κs a r r′ s s′ h g = (h .0 ∙ sym (g .0), h .1 .0 ∙ sym (g .1 .0), h .1 .1 ∙ sym (g .1 .1))
+
+pub explain-settled : (κs : Lfts 2) (a : ArgsD explain.signature κs) (r r′ : ResD explain.signature κs) (s s′ : AtExit (endedOf 2 explain-kinds.ps explain-kinds.r) κs)
+    → explain-reads.Post κs a r s → explain-reads.Post κs a r′ s′ → r ≡ r′
+explain-settled κs a r r′ s s′ h g = h ∙ sym g
 
 pub scan-settled : (κs : Lfts 2) (a : ArgsD scan.signature κs) (r r′ : ResD scan.signature κs) (s s′ : AtExit (endedOf 2 scan-kinds.ps scan-kinds.r) κs)
     → scan-reads.Post κs a r s → scan-reads.Post κs a r′ s′ → r ≡ r′

@@ -16,6 +16,8 @@ use Rattle.cells.proofs.pulse as plain-pulse
 use Rattle.cells.proofs.pulse.Reads as plain-pulse-reads
 use Rattle.wide.proofs.pulse as wide-pulse
 use Rattle.wide.proofs.pulse.Reads as wide-pulse-reads
+use Rattle.explainer.proofs.explain as explain
+use Rattle.explainer.proofs.explain.Reads as explain-reads
 use Rattle.resolver.proofs.scan as scan
 use Rattle.resolver.proofs.scan.Reads as scan-reads
 use Rattle.resolver.proofs.network as network
@@ -77,6 +79,9 @@ plain-pulse-takes-any κs a = tt
 
 pub wide-pulse-takes-any : (κs : Lfts 2) (a : ArgsD wide-pulse.signature κs) → wide-pulse-reads.Pre κs a
 wide-pulse-takes-any κs a = tt
+
+pub explain-takes-any : (κs : Lfts 2) (a : ArgsD explain.signature κs) → explain-reads.Pre κs a
+explain-takes-any κs a = tt
 
 pub scan-takes-any : (κs : Lfts 2) (a : ArgsD scan.signature κs) → scan-reads.Pre κs a
 scan-takes-any κs a = tt

@@ -1,12 +1,13 @@
 //! Document 01's figures 1 to 13 through the second_ functions, figures of
-//! request c of document 02 (at_least.rs), examples of its request d
-//! (job_refusals.rs) and of what the header adds (examples.rs). All expected
-//! values were worked out by hand from the documents and the header, none was
-//! copied from a run.
+//! request c of document 02 (at_least.rs), examples of its requests d
+//! (job_refusals.rs) and e (explains.rs) and of what the header adds
+//! (examples.rs). All expected values were worked out by hand from the documents
+//! and the header, none was copied from a run.
 //! Prints each difference and, last, 'N passed, M failed'.
 
 mod at_least;
 mod examples;
+mod explains;
 mod hosts;
 mod job_refusals;
 
@@ -349,6 +350,7 @@ fn main() {
     figure_13(&mut tally);
     at_least::run(&mut tally);
     job_refusals::run(&mut tally);
+    explains::run(&mut tally);
     examples::run(&mut tally);
     println!("{} passed, {} failed", tally.passed, tally.failed);
     std::process::exit(i32::from(tally.failed > 0));

@@ -2,6 +2,7 @@
 //! own, and each second_ function called on them with an answer's buffer.
 
 use second::arrays::{second_array_cells, second_array_wide};
+use second::explainer::second_explain;
 use second::images::{second_read, second_write};
 use second::jobs::{second_start, second_step, second_total};
 use second::panels::second_load;
@@ -132,6 +133,30 @@ impl Host {
 
     pub fn pulse(&mut self, pulse: Pulse, lines: u8) -> (u32, Vec<u64>) {
         self.pulse_into(pulse, lines, 4)
+    }
+
+    /// An explanation with an answer's buffer of so many numbers.
+    pub fn explain_into(&self, word: usize, room: usize) -> (u32, Vec<u64>) {
+        let mut answer = vec![OLD; room];
+        let number = unsafe {
+            second_explain(
+                self.words.as_ptr(),
+                self.words.len(),
+                self.responses.as_ptr(),
+                self.responses.len(),
+                self.width,
+                self.panel.as_ptr(),
+                self.panel.len(),
+                word,
+                answer.as_mut_ptr(),
+                answer.len(),
+            )
+        };
+        (number, answer)
+    }
+
+    pub fn explain(&self, word: usize) -> (u32, Vec<u64>) {
+        self.explain_into(word, 5)
     }
 
     /// The resolution's two calls under key and care.

@@ -6,6 +6,7 @@
 
 pub mod arrays;
 pub mod calls;
+pub mod explainer;
 pub mod images;
 pub mod jobs;
 pub mod lent;

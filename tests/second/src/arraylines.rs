@@ -122,6 +122,9 @@ impl Writer {
         if n > FEW {
             let kind = self.rng.pick(&KINDS).0;
             self.say(format!("write3 {kind} r1 m none complement"));
+            if self.rng.once_in(3) {
+                self.say("list3");
+            }
         }
     }
 
@@ -347,14 +350,14 @@ impl Writer {
     fn bad_array_line(&mut self) {
         let mut words: Vec<String> = self.operation().iter().map(|w| w.to_string()).collect();
         let place = self.rng.between(1, words.len() as u64 - 1) as usize;
-        match self.rng.below(12) {
-            0 => words[place].make_ascii_uppercase(),
-            1 => drop(words.remove(place)),
-            2 => words.insert(place, words[place].clone()),
-            3 => words.push(self.rng.pick(&["0", "p", "true", "and"]).to_string()),
-            4 => words.swap(place, 1),
-            5 | 6 => words[place] = self.rng.pick(&NO_CHOICES).to_string(),
-            7..=9 => words[place] = self.other_choice(),
+        match self.rng.below(14) {
+            0 | 1 => words[place].make_ascii_uppercase(),
+            2 => drop(words.remove(place)),
+            3 => words.insert(place, words[place].clone()),
+            4 => words.push(self.rng.pick(&["0", "p", "true", "and"]).to_string()),
+            5 => words.swap(place, 1),
+            6..=8 => words[place] = self.rng.pick(&NO_CHOICES).to_string(),
+            9..=11 => words[place] = self.other_choice(),
             _ => return self.host_out_of_range(),
         }
         self.say(words.join(" "));
@@ -372,7 +375,7 @@ impl Writer {
         let n = self.array_n();
         let index = self.array_index();
         let register = self.rng.pick(&["r1", "r2", "m", "M", "r3", "s", ""]);
-        let line = match self.rng.below(10) {
+        let line = match self.rng.below(12) {
             0 => format!("cell3 {n} 0 0"),
             1 => format!("select3 {n} 1"),
             2 => format!("select3 {index} 100"),

@@ -5,7 +5,7 @@ use crate::writer::Writer;
 use processor::line::LONGEST;
 
 /// One good line of each command.
-const GOOD: [&str; 35] = [
+const GOOD: [&str; 36] = [
     "machine 8 3",
     "lend 3",
     "word 0 35",
@@ -18,6 +18,7 @@ const GOOD: [&str; 35] = [
     "cells add",
     "resolve",
     "tree",
+    "why 2",
     "start 1 0 0 0 1 0 4 0 0 0 0 0",
     "job 3 0 0 0 1 0 4 0 0 4 4 2 3 0 FF",
     "drop",
@@ -75,7 +76,7 @@ const ODD: [&str; 26] = [
 
 /// The ranges of the language: a line's beginning, a word at the edge of its
 /// range, one beyond it, and the line's end.
-const RANGES: [[&str; 4]; 31] = [
+const RANGES: [[&str; 4]; 32] = [
     ["machine ", "255", "256", " 3"],
     ["machine 8 ", "2048", "2049", ""],
     ["lend ", "2048", "2049", ""],
@@ -93,6 +94,7 @@ const RANGES: [[&str; 4]; 31] = [
         "18446744073709551616",
         "",
     ],
+    ["why ", "18446744073709551615", "18446744073709551616", ""],
     ["pulse ", "search read", "search search", ""],
     ["cells ", "read multiadd", "read read", ""],
     ["show ", "255", "256", ""],

@@ -72,7 +72,7 @@ impl Writer {
         let x = self.rng.pick(&[0, 1, 2, 3, 7, 8, 255]);
         let f = self.rng.pick(&[0, 1, 2, 3, 7, 8, 255]);
         let word = self.address();
-        match self.rng.below(18) {
+        match self.rng.below(19) {
             0 => drop(self.say("step")),
             1 => drop(self.say("run")),
             2 => drop(self.say("total")),
@@ -95,6 +95,7 @@ impl Writer {
                 let way = self.rng.pick(&["pulse", "cells"]);
                 self.say(format!("{way} {lines}"));
             }
+            17 => self.why(),
             _ => self.load_panel(),
         }
     }

@@ -14,7 +14,7 @@ pub const CELLS: Way = Way {
 
 /// What a cell passes on in a search.
 #[derive(Clone, Copy, PartialEq, Eq)]
-enum Status {
+pub enum Status {
     Equal,
     For,
     Against,
@@ -24,7 +24,7 @@ enum Status {
 /// against. Larger: word 1 with COMP 0 settles for, word 0 with COMP 1
 /// against; smaller is the mirror. A settled status stays." At least settles as
 /// larger does, and at most as smaller.
-fn pass(status: Status, code: Code, word_bit: u64, comp_bit: u64) -> Status {
+pub fn pass(status: Status, code: Code, word_bit: u64, comp_bit: u64) -> Status {
     if status != Status::Equal || word_bit == comp_bit {
         return status;
     }
@@ -42,7 +42,7 @@ fn pass(status: Status, code: Code, word_bit: u64, comp_bit: u64) -> Status {
 /// "Exact wants "equal" at the bottom, larger and smaller want "settled for"."
 /// A syllable of don't-cares wants nothing. 02 c: for at least and at most "equal
 /// at the bottom also satisfies".
-fn wanted(status: Status, code: Code) -> bool {
+pub fn wanted(status: Status, code: Code) -> bool {
     match code {
         Code::DontCare => true,
         Code::Exact => status == Status::Equal,

@@ -147,7 +147,7 @@ fn spoil_setting(rng: &mut Rng, codes: &mut Codes, mask: u64) {
 }
 
 /// One of a number's ones; 0 if it has none.
-fn one_of(rng: &mut Rng, number: u64) -> u64 {
+pub fn one_of(rng: &mut Rng, number: u64) -> u64 {
     let places: Vec<u32> = (0..64).filter(|place| bit(number, *place) == 1).collect();
     if places.is_empty() {
         0
@@ -220,6 +220,95 @@ pub fn word_near(
         word = (word & !kept) | part;
     }
     word
+}
+
+/// Codes that 5 has nothing against, drawn a few times until a syllable is larger or
+/// smaller.
+pub fn to_ask(rng: &mut Rng, sdr: u64, width: u8) -> Codes {
+    let mut codes = fair(rng, sdr, width);
+    for _ in 0..4 {
+        if codes.sc1 & !codes.sc3 != 0 {
+            break;
+        }
+        codes = fair(rng, sdr, width);
+    }
+    codes
+}
+
+/// How a word to ask about is to end, as far as the search lets it.
+#[derive(Clone, Copy, PartialEq, Eq)]
+pub enum Wish {
+    Taken,
+    Against,
+    Equal,
+    Any,
+}
+
+/// A word that ends as wished by one of its syllables, the others such as is taken, if
+/// there is one next to COMP.
+pub fn word_wished(rng: &mut Rng, panel: &Panel, width: u8, wish: Wish) -> u64 {
+    let mut fit = syllables(panel.sdr, width.min(64));
+    fit.retain(|syllable| against(panel, *syllable) != 0);
+    if wish == Wish::Equal {
+        fit = syllables(panel.sdr, width.min(64));
+        fit.retain(|s| matches!(code_of(panel, *s), Some(Code::Larger | Code::Smaller)));
+    }
+    let edge = rng.below(fit.len() as u64) as usize;
+    let edge = fit.get(edge).copied();
+    match (wish, edge) {
+        (Wish::Any, _) => word_to_ask(rng, panel, width),
+        (Wish::Equal, Some(_)) => word_near(rng, panel, width, edge, 0),
+        (Wish::Against, Some(edge)) => {
+            let word = word_near(rng, panel, width, None, 0);
+            let place = one_of(rng, against(panel, edge));
+            let kept = cared(panel, edge);
+            (word & !kept) | (parted(rng, panel.comp, place) & kept)
+        }
+        _ => word_near(rng, panel, width, None, 0),
+    }
+}
+
+/// The bits of a syllable where a difference settles against: any for exact, for the
+/// others those where COMP stands at the end that is wanted.
+fn against(panel: &Panel, syllable: Syllable) -> u64 {
+    let kept = cared(panel, syllable);
+    match code_of(panel, syllable) {
+        Some(Code::Larger | Code::AtLeast) => kept & panel.comp,
+        Some(Code::Smaller | Code::AtMost) => kept & !panel.comp,
+        _ => kept,
+    }
+}
+
+/// A word to ask about: in each syllable such as is taken, if there is one next to
+/// COMP, but in some of them equal to COMP or parting from it at one bit.
+pub fn word_to_ask(rng: &mut Rng, panel: &Panel, width: u8) -> u64 {
+    let mut word = word_near(rng, panel, width, None, 0);
+    let mut kept: Vec<u64> = syllables(panel.sdr, width.min(64))
+        .into_iter()
+        .map(|syllable| cared(panel, syllable))
+        .filter(|kept| *kept != 0)
+        .collect();
+    rng.shuffle(&mut kept);
+    let several = rng.between(2, 5) as usize;
+    let some = rng.pick(&[0, 1, 1, several]);
+    for kept in kept.into_iter().take(some) {
+        word = (word & !kept) | parting(rng, panel.comp, kept);
+    }
+    word
+}
+
+/// Over the bits that are cared for COMP down to one of them, there the other bit
+/// and below it anything; or COMP to the bottom.
+fn parting(rng: &mut Rng, comp: u64, kept: u64) -> u64 {
+    let place = one_of(rng, kept);
+    let parted = parted(rng, comp, place);
+    rng.pick(&[comp, parted, parted]) & kept
+}
+
+/// COMP down to one bit, there the other bit and below it anything.
+fn parted(rng: &mut Rng, comp: u64, place: u64) -> u64 {
+    let below = place.wrapping_sub(1);
+    ((comp ^ place) & !below) | (rng.next() & below)
 }
 
 /// SC3 with one syllable's setting turned over; as it was, if no bit is larger

@@ -12,6 +12,7 @@ use crate::panel::{Lines, Panel};
 use crate::pulse::{pulse, Way};
 use crate::resolve;
 use crate::round::{self, Verdict};
+use crate::why::{why, Reason};
 use crate::wide::WIDE;
 
 /// The board's machine, with its panel and the held job, if any, and beside it
@@ -71,6 +72,7 @@ impl Console {
             [b"cells", lines @ ..] => self.pulse(&CELLS, lines),
             [b"resolve"] => Some(self.resolve()),
             [b"tree"] => Some(self.tree()),
+            [b"why", word] => self.why(word),
             [b"start", fields @ ..] => self.start(fields),
             [b"job", fields @ ..] => self.write_job(fields),
             [b"drop"] => self.drop_job(),
@@ -155,6 +157,11 @@ impl Console {
 
     fn tree(&self) -> Outcome {
         resolve::tree(&self.machine, self.panel.key, self.panel.care).map(word_text)
+    }
+
+    fn why(&self, word: &[u8]) -> Option<Outcome> {
+        let word = decimal(word, u64::MAX)?;
+        Some(why(&self.machine, &self.panel, word).map(reason_text))
     }
 
     fn start(&mut self, fields: &[&[u8]]) -> Option<Outcome> {
@@ -355,6 +362,16 @@ fn word_text(found: Option<usize>) -> String {
     match found {
         Some(index) => format!("word {index}"),
         None => "none".to_string(),
+    }
+}
+
+/// "T is the number of the syllable's top bit."
+fn reason_text(reason: Reason) -> String {
+    match reason {
+        Reason::Matched => "matched".to_string(),
+        Reason::NotSelected { differs } => format!("not selected bit {differs}"),
+        Reason::Against { top, at } => format!("syllable {top} against at {at}"),
+        Reason::EqualToTheBottom { top } => format!("syllable {top} equal to the bottom"),
     }
 }
 

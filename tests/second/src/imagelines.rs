@@ -79,7 +79,7 @@ impl Writer {
         let bytes = undigits(&image);
         let count = bytes.get(5..7).unwrap_or(&[0, 0]);
         let n = (u64::from(count[0]) + 256 * u64::from(count[1])).min(2047);
-        let sizes = [n, n, n, n, n + 1, n.saturating_sub(1), 0, 1024, 2048];
+        let sizes = [n, n, n, n, n, n + 1, n.saturating_sub(1), 0, 1024, 2048];
         let words = self.rng.pick(&sizes);
         let responses = self.rng.pick(&sizes);
         self.say(format!("fit {words} {responses} {image}"));

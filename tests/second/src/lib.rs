@@ -15,4 +15,5 @@ pub mod pulse;
 pub mod resolve;
 pub mod round;
 pub mod syllable;
+pub mod why;
 pub mod wide;

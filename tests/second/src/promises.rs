@@ -1,9 +1,12 @@
 //! What a script's own comments promise, held against the answers: `# same A B`
 //! that the A-th and B-th commands after it answer the same, `# ends` that the
 //! five commands after it show a job from its start to its stated end,
-//! `# stored` that the second command after it stores the bytes the first read.
+//! `# stored` that the second command after it stores the bytes the first read,
+//! `# picked B` that the `why` lines after it say "matched" of the very words in
+//! which the search after them sets response bit B, as the `list` after it tells.
 
 use crate::ends;
+use crate::picks;
 use crate::told::Told;
 
 type Verdict = Result<(), String>;
@@ -13,6 +16,7 @@ enum Promise {
     Same(usize, usize),
     Ends,
     Stored,
+    Picked(u32),
 }
 
 /// The promise a line makes, if it makes one.
@@ -26,6 +30,7 @@ fn promise_of(line: &[u8]) -> Option<Promise> {
         ["#", "same", first, other] => Some(Promise::Same(place(first)?, place(other)?)),
         ["#", "ends"] => Some(Promise::Ends),
         ["#", "stored"] => Some(Promise::Stored),
+        ["#", "picked", bit] => Some(Promise::Picked(bit.parse().ok()?)),
         _ => None,
     }
 }
@@ -44,6 +49,7 @@ fn keeps(promise: &Promise, after: &[&Told]) -> Verdict {
             [read, store, ..] => stored(read, store),
             _ => Ok(()),
         },
+        Promise::Picked(bit) => picks::hold(*bit, after),
         Promise::Ends => match after {
             [before, start, _, _, end, ..] => ends::hold(before, start, end),
             _ => Ok(()),

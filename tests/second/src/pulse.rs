@@ -34,6 +34,18 @@ pub fn pulse(
     Ok(apply(way, machine, panel, lines))
 }
 
+/// What is checked of a search raised alone: 1 to 5. It is one line, and none that
+/// uses the address, so that 6 and 7 have nothing against it.
+pub fn check_search(machine: &Machine, panel: &Panel) -> Result<(), Refusal> {
+    let search = Lines {
+        search: true,
+        ..Lines::default()
+    };
+    machine.check()?;
+    check_registers(machine, panel)?;
+    check_codes(machine, panel, search)
+}
+
 /// 4: "a panel register has such a one", at or above bit N.
 fn check_registers(machine: &Machine, panel: &Panel) -> Result<(), Refusal> {
     let registers = [

@@ -18,12 +18,13 @@
 
 mod ends;
 mod figures;
+mod picks;
 mod player;
 mod promises;
 mod told;
 
 use player::Boards;
-use scripts::tally::{needed, Tally};
+use scripts::tally::{needed, unwanted, Tally};
 use scripts::{image_script, random_script};
 use std::ops::Range;
 use std::process::ExitCode;
@@ -140,6 +141,13 @@ fn needs(score: &mut Score, tally: &Tally) {
             Err(format!("came {count} times, not {least}"))
         };
         score.count(&name, verdict);
+    }
+    for name in unwanted() {
+        let verdict = match tally.counts.get(name) {
+            None => Ok(()),
+            Some(count) => Err(format!("came {count} times")),
+        };
+        score.count(name, verdict);
     }
 }
 

@@ -15,7 +15,7 @@ impl Writer {
     /// One scene, after what may be out of order has been set right.
     pub fn scene(&mut self) {
         self.heal();
-        match self.rng.below(149) {
+        match self.rng.below(160) {
             0..=6 => self.new_machine(),
             7..=10 => self.fill(),
             11..=24 => self.some_pulses(),
@@ -42,6 +42,8 @@ impl Writer {
             114..=118 => self.wrong_alone(),
             119..=122 => self.wrong_twice(),
             123..=124 => self.wrong_on_wrong(),
+            125..=128 => self.asked_why(),
+            129..=130 => self.asked_in_vain(),
             _ => self.array_scene(),
         }
     }
@@ -236,6 +238,9 @@ impl Writer {
             let lines = self.lines();
             let way = self.rng.pick(&["pulse", "cells"]);
             self.say(format!("{way} {lines}"));
+        }
+        if self.rng.once_in(3) {
+            self.why();
         }
         if self.rng.once_in(3) {
             self.look();

@@ -14,6 +14,7 @@ mod scenes;
 mod searchlines;
 pub mod tally;
 mod values;
+mod whylines;
 mod writer;
 mod wronglines;
 mod wrongs;

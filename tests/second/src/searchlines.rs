@@ -24,6 +24,7 @@ impl Writer {
         }
         let lines = self.search_lines();
         self.on_both(&lines);
+        self.why_of_a_word();
         for _ in 0..self.rng.between(1, 2) {
             let width = self.width();
             let sc3 = codes::turned(&mut self.rng, &self.model.panel, width);
@@ -59,6 +60,7 @@ impl Writer {
             self.say("# same 1 2");
             self.say("pulse search");
             self.say("cells search");
+            self.why_of_a_word();
         }
         self.look();
     }
@@ -116,11 +118,8 @@ impl Writer {
         if self.n() > 40 || unsound {
             self.machine_to_search();
         }
-        let width = self.width();
-        let sdr = values::definition(&mut self.rng, width);
-        self.load("sdr", sdr);
-        let wrong = codes::wrong(&mut self.rng, sdr, width);
-        self.load_codes(wrong);
+        self.load_wrong_codes();
+        self.why();
         let lines = self.search_lines();
         self.on_both(&lines);
         let way = self.rng.pick(&["pulse", "cells"]);
@@ -128,8 +127,16 @@ impl Writer {
         self.say(format!("{way} {other}"));
     }
 
+    pub fn load_wrong_codes(&mut self) {
+        let width = self.width();
+        let sdr = values::definition(&mut self.rng, width);
+        self.load("sdr", sdr);
+        let wrong = codes::wrong(&mut self.rng, sdr, width);
+        self.load_codes(wrong);
+    }
+
     /// A small machine, its width often 64, else any width alike.
-    fn machine_to_search(&mut self) {
+    pub fn machine_to_search(&mut self) {
         let any = self.rng.between(1, 64);
         let width = self.rng.pick(&[64, any, any, any, any]);
         let n = self.rng.between(2, 8);
@@ -138,7 +145,7 @@ impl Writer {
 
     /// Registers that no number is given for, and most often all words
     /// selected.
-    fn load_fair_search(&mut self) {
+    pub fn load_fair_search(&mut self) {
         let width = self.width();
         if !self.rng.once_in(4) {
             let several = values::definition(&mut self.rng, width);

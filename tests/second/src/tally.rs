@@ -2,6 +2,7 @@
 //! unseen. The counts are of what happened on the second program.
 
 use crate::tally::facts::Facts;
+use crate::tally::picked::Picked;
 use processor::array::Array;
 use processor::console::Console;
 use processor::line::{read_line, Line, LONGEST};
@@ -17,9 +18,13 @@ mod jobneeds;
 pub mod jobreasons;
 mod meetings;
 mod needed;
+mod picked;
 mod reasons;
+mod whyfacts;
+mod whyneeds;
+mod whyparts;
 
-pub use needed::needed;
+pub use needed::{needed, unwanted};
 
 /// A round on its way: its X, and what has happened in it.
 #[derive(Default)]
@@ -48,6 +53,8 @@ pub struct Tally {
     pub commands: u64,
     round: Option<Round>,
     course: Course,
+    /// What is on its way to be held against a search.
+    picked: Option<Picked>,
 }
 
 impl Tally {
@@ -57,6 +64,7 @@ impl Tally {
         let mut input = script;
         self.round = None;
         self.course = Course::default();
+        self.picked = None;
         while let Ok(Some(line)) = read_line(&mut input) {
             self.line(&mut console, &line);
         }
@@ -80,7 +88,10 @@ impl Tally {
         }
         let answer = match console.answer(line) {
             Some(answer) => answer,
-            None => return self.count("line: silent"),
+            None => {
+                self.follow_comment(&line.bytes);
+                return self.count("line: silent");
+            }
         };
         self.commands += 1;
         if !line.too_long {
@@ -93,6 +104,7 @@ impl Tally {
         self.follow_round(&words, &answer);
         self.follow_operations(&words, &answer);
         self.follow_both(console, &words, &answer);
+        self.follow_picked(&words, &answer);
     }
 
     /// The command's name and how it went.

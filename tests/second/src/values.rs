@@ -282,6 +282,7 @@ pub fn spoil(rng: &mut Rng, job: &mut Job, width: u8) {
     match rng.below(19) {
         0 => job.kind = rng.pick(&[0, 5, 255]),
         1 => job.x = rng.pick(&[8, 255, job.y]),
+        2 if rng.once_in(3) => (job.x, job.y) = rng.pick(&[(8, 8), (255, 255)]),
         2 => job.y = rng.pick(&[8, 255, job.x]),
         3 => job.care |= 1 << (job.y % 8),
         4 => job.care |= 1 << (job.x % 8),
@@ -330,7 +331,10 @@ pub fn spoil_used(rng: &mut Rng, job: &mut Job, width: u8) {
         5 if job.kind == PRODUCT => job.b = within(rng, job.p),
         4 if rng.once_in(2) => job.x = rng.pick(&[8, 255]),
         4 => job.care |= 1 << (job.x % 8),
-        5 if extreme => job.y = job.x,
+        5 if extreme => {
+            job.x = rng.pick(&[job.x, 8, 255]);
+            job.y = job.x;
+        }
         6 => job.y = rng.pick(&[8, 255]),
         _ => job.care |= 1 << (job.y % 8),
     }

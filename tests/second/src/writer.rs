@@ -16,6 +16,8 @@ pub struct Writer {
     /// Which width of a syllable is next to be searched in every way. It begins
     /// at the seed, so that scripts of seeds in a row go through all of them.
     pub turn: u64,
+    /// The same for the width of the machine where it is asked why.
+    pub asked: u64,
     /// Which wrong job is next: alone, with two numbers, on a wrong machine. Each
     /// begins at five times the seed: 5 divides the number of none of them, so that
     /// scripts of seeds in a row begin at all of them.
@@ -34,6 +36,7 @@ impl Writer {
             script: Vec::new(),
             saved: Vec::new(),
             turn: seed,
+            asked: seed,
             wrongs: [seed.wrapping_mul(5); 3],
         }
     }

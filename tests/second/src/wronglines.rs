@@ -87,7 +87,7 @@ impl Writer {
         self.model.machine.check().is_ok() && self.width() >= 3
     }
 
-    fn read_sound_machine(&mut self) {
+    pub fn read_sound_machine(&mut self) {
         let (width, n) = (self.rng.between(3, 64) as u8, self.rng.between(1, 9));
         let machine = values::machine(&mut self.rng, width, n as usize);
         self.say(format!("resume {}", digits(&compose(&machine, &None))));
@@ -125,7 +125,7 @@ impl Writer {
     }
 
     /// A machine that this number alone is given for.
-    fn make_machine_wrong(&mut self, number: u64) {
+    pub fn make_machine_wrong(&mut self, number: u64) {
         let n = self.rng.between(1, 9);
         let width = self.rng.between(3, 63) as u8;
         let wide = self.rng.pick(&[65, 66, 128, 255]);

@@ -147,6 +147,8 @@ fn make_wrong(rng: &mut Rng, job: &mut Job, width: u8, reason: Reason) {
         ("22 B", _) => put_over(rng, &mut job.p, &mut job.b),
         (_, "X above 7") => job.x = rng.pick(&[8, 9, 255]),
         (_, "Y above 7") => job.y = rng.pick(&[8, 9, 255]),
+        // The one that is above 7 stays so.
+        (_, "X equal to Y") if job.y > 7 => job.x = job.y,
         (_, "X equal to Y") => job.y = job.x,
         (_, "X in care") => job.care |= 1 << (job.x % 8),
         (_, "Y in care") => job.care |= 1 << (job.y % 8),

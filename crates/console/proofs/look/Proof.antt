@@ -32,13 +32,17 @@ returns-8 : tie.Need-returns-8
 returns-8 c = let a = c .before .before .before .before .before .before .before .before .before .before .before .before .args in look-arm (desk (a .board) (a .words .now) (a .responses .now) (a .bytes .now)) (a .name .now) (wordsOf (a .rest .now)) (c .before .before .before .before .before .which .result) (c .before .before .before .before .before .which .ensures) 7 (omega arith) _ _ (c .before .before .room .ensures .0) (c .before .before .room .ensures .1)
 
 returns-9 : tie.Need-returns-9
-returns-9 c = let a = c .before .before .before .before .before .before .before .before .args in look-other (desk (a .board) (a .words .now) (a .responses .now) (a .bytes .now)) (a .name .now) (wordsOf (a .rest .now)) (c .before .which .result) (c .before .which .ensures) (next-up 7 _ (next-up 6 _ (next-up 5 _ (next-up 4 _ (next-up 3 _ (next-up 2 _ (next-up 1 _ (not-zero _ (c .match .rest .0 .0 .0 .0 .0 .0 .0 .1)) (c .match .rest .0 .0 .0 .0 .0 .0 .1)) (c .match .rest .0 .0 .0 .0 .0 .1)) (c .match .rest .0 .0 .0 .0 .1)) (c .match .rest .0 .0 .0 .1)) (c .match .rest .0 .0 .1)) (c .match .rest .0 .1)) (c .match .rest .1))
+returns-9 c = let a = c .before .before .before .before .before .before .before .before .before .args in look-arm (desk (a .board) (a .words .now) (a .responses .now) (a .bytes .now)) (a .name .now) (wordsOf (a .rest .now)) (c .before .before .which .result) (c .before .before .which .ensures) 8 (omega arith) _ _ (c .why .ensures) refl
+
+returns-10 : tie.Need-returns-10
+returns-10 c = let a = c .before .before .before .before .before .before .before .before .args in look-other (desk (a .board) (a .words .now) (a .responses .now) (a .bytes .now)) (a .name .now) (wordsOf (a .rest .now)) (c .before .which .result) (c .before .which .ensures) (next-up 8 _ (next-up 7 _ (next-up 6 _ (next-up 5 _ (next-up 4 _ (next-up 3 _ (next-up 2 _ (next-up 1 _ (not-zero _ (c .match .rest .0 .0 .0 .0 .0 .0 .0 .0 .1)) (c .match .rest .0 .0 .0 .0 .0 .0 .0 .1)) (c .match .rest .0 .0 .0 .0 .0 .0 .1)) (c .match .rest .0 .0 .0 .0 .0 .1)) (c .match .rest .0 .0 .0 .0 .1)) (c .match .rest .0 .0 .0 .1)) (c .match .rest .0 .0 .1)) (c .match .rest .0 .1)) (c .match .rest .1))
 
 pub look-spec : {M : Type 1} → statement M
 look-spec =
     tie.close
     (tie.spec
     (λ c. search needs)
+    (λ c κs. search needs)
     (λ c κs. search needs)
     (λ c κs. search needs)
     (λ c κs. search needs)
@@ -59,4 +63,5 @@ look-spec =
     returns-7
     (λ c. search needs)
     returns-8
-    returns-9)
+    returns-9
+    returns-10)

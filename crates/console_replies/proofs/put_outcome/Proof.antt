@@ -38,6 +38,9 @@ returns-11 c = rw (c .before .before .before .before .before .outcome8 .given .1
 returns-12 : tie.Need-returns-12
 returns-12 c = rw (c .before .before .before .before .before .before .outcome9 .given .1) (c .before .before .put-named3 .ensures)
 
+returns-13 : tie.Need-returns-13
+returns-13 c = rw (c .before .before .before .before .before .outcome10 .given .1) (c .before .before .put-why .ensures)
+
 pub put-outcome-spec : {M : Type 1} → statement M
 put-outcome-spec =
     tie.close
@@ -73,6 +76,8 @@ put-outcome-spec =
     (λ c. search needs)
     (λ c κs. search needs)
     (λ c. search needs)
+    (λ c κs. search needs)
+    (λ c. search needs)
     returns
     (λ c. search needs)
     returns-2
@@ -95,4 +100,6 @@ put-outcome-spec =
     (λ c. search needs)
     returns-11
     (λ c. search needs)
-    returns-12)
+    returns-12
+    (λ c. search needs)
+    returns-13)

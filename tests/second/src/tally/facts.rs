@@ -68,6 +68,9 @@ impl Facts {
             [command, ..] if answer == "bad line" && COMMANDS.contains(command) => {
                 self.bad_array_line(&console.array, words);
             }
+            [command, ..] if command.to_ascii_lowercase().starts_with(b"why") => {
+                self.why_facts(console, words, answer);
+            }
             _ => {}
         }
     }

@@ -4,12 +4,13 @@
 use super::comparing::{fate, BESIDE, COMPARING, GAPS, STANDINGS};
 use super::meetings::{ASKED, MEETINGS};
 use super::reasons::CODE_REASONS;
+use super::whyfacts::ANOTHER;
 use processor::panel::LINE_NAMES;
 
 /// Least counts: of what is sought out, of what comes beside it, and of what
 /// comes now and then.
 pub const OFTEN: u64 = 100;
-const REGULARLY: u64 = 50;
+pub const REGULARLY: u64 = 50;
 pub const SOMETIMES: u64 = 5;
 
 /// The numbers that each command can be turned down for, but for those of a job.
@@ -296,6 +297,7 @@ pub fn needed() -> Vec<(String, u64)> {
     needs.wrong_jobs();
     needs.images();
     needs.array();
+    needs.why();
     for name in NAMED {
         needs.add(OFTEN, name);
     }
@@ -303,4 +305,9 @@ pub fn needed() -> Vec<(String, u64)> {
         needs.add(SOMETIMES, name);
     }
     needs.0
+}
+
+/// What may not come: an answer to `why` that isn't the one found from document 01.
+pub fn unwanted() -> [&'static str; 1] {
+    [ANOTHER]
 }
