@@ -2,11 +2,9 @@
 // words. Everything is compared as a ratio within one run; nothing here is asserted about time.
 // Usage: bench (the tables), bench agree (only that all variants give the same, on random panels), bench names (of the
 // variants), bench count NAME WIDTH CALLS [least] (that many calls and nothing else, for an instruction counter, with
-// `least` on the panel of that column), bench lines (of the table of a pulse in one module), bench module CALL LINE WIDTH CALLS
-// (the same for it).
+// `least` on the panel of that column).
 mod data;
 mod hand;
-mod modules;
 mod opaque;
 mod proved;
 #[cfg(sqlite)]
@@ -234,7 +232,6 @@ fn tables(random: &mut Random) {
     for t in &tables {
         print(t);
     }
-    modules::table(random);
     #[cfg(sqlite)]
     sqlite::run(random, time(&tables[0][1], "wide search"));
 }
@@ -260,19 +257,8 @@ fn main() {
                 black_box(call(black_box(&p), &mut w, &mut r));
             }
         }
-        ["lines"] => modules::LINES.iter().for_each(|l| println!("{}", l.0)),
-        ["module", name, line, width, calls] => {
-            let p = panel(&mut random, width.parse().unwrap(), 8);
-            let (mut w, mut r) = words(&mut random, &p, Select::Most);
-            let call = modules::CALLS.iter().find(|c| c.0 == name).unwrap().1;
-            let lines = modules::LINES.iter().find(|l| l.0 == line).unwrap().1;
-            for _ in 0..calls.parse().unwrap() {
-                black_box(call(black_box(&p), lines, &mut w, &mut r));
-            }
-        }
         _ => {
-            eprintln!("usage: bench, bench agree, bench names, bench count NAME WIDTH CALLS [least], bench lines,");
-            eprintln!("       bench module CALL LINE WIDTH CALLS");
+            eprintln!("usage: bench, bench agree, bench names, bench count NAME WIDTH CALLS [least]");
             std::process::exit(2);
         }
     }

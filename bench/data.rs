@@ -34,7 +34,6 @@ impl Random {
 // ---- for the tables
 
 pub const N: usize = 1024;
-pub const MODULE: usize = 128;
 
 // Which words are selected.
 #[derive(Clone, Copy, PartialEq)]
@@ -47,8 +46,6 @@ pub enum Select {
     Runs,
     // one run of 64
     Few,
-    // one run of 8 in each module
-    Modules,
 }
 
 // k syllables, equal as far as the width allows, with the four codes in turn; SC3 is 0.
@@ -113,7 +110,6 @@ pub fn words(random: &mut Random, p: &Panel, select: Select) -> (Vec<u64>, Vec<u
                 Select::All => true,
                 Select::Runs => i / 128 % 2 == 0,
                 Select::Few => i / 64 == 7,
-                Select::Modules => i % MODULE / 8 == 7,
             };
             if selected { x | 0x10 } else { x & !0x10 }
         })

@@ -276,18 +276,6 @@ pub fn touch(_: &Panel, w: &mut [u64], r: &mut [u8]) -> u64 {
     all
 }
 
-// The library's pass for number 3: the OR of all words, tested once. 1 if a word has a bit above the width, which none of 64 bits has.
-pub fn pass(p: &Panel, w: &[u64]) -> u64 {
-    if p.width == 64 {
-        return 0;
-    }
-    let mut all = 0u64;
-    for w in w.iter() {
-        all |= *w;
-    }
-    (all > ones(p.width)) as u64
-}
-
 // ---- multiadd, multiwrite, and multiadd with search
 
 // What to add, with the tops of the syllables.

@@ -15,23 +15,15 @@ extern "C" {
         words: *mut u64, n: usize, responses: *mut u8, m: usize, width: u32, panel: *const u64, registers: usize, lines: u8,
         answer: *mut u64, room: usize,
     ) -> u32;
-    fn dushvaneth_wide_pulse_in(
-        words: *mut u64, n: usize, responses: *mut u8, m: usize, width: u32, panel: *const u64, registers: usize, lines: u8,
-        first: usize, count: usize, answer: *mut u64, room: usize,
-    ) -> u32;
 }
 
-pub const SEARCH: u8 = 1;
-pub const MULTIWRITE: u8 = 16;
-pub const MULTIADD: u8 = 32;
-
-fn registers(p: &Panel) -> [u64; 10] {
-    [p.comp, p.sdr, p.sc1, p.sc2, p.mor, p.key as u64, p.care as u64, p.target as u64, 0, p.sc3]
-}
+const SEARCH: u8 = 1;
+const MULTIWRITE: u8 = 16;
+const MULTIADD: u8 = 32;
 
 // The count, with a refusal's number above it.
 fn called(pulse: Pulse, p: &Panel, lines: u8, w: &mut [u64], r: &mut [u8]) -> u64 {
-    let panel = registers(p);
+    let panel = [p.comp, p.sdr, p.sc1, p.sc2, p.mor, p.key as u64, p.care as u64, p.target as u64, 0, p.sc3];
     let mut answer = [0; 4];
     let number = unsafe {
         pulse(
@@ -42,21 +34,8 @@ fn called(pulse: Pulse, p: &Panel, lines: u8, w: &mut [u64], r: &mut [u8]) -> u6
     (number as u64) << 32 | answer[2]
 }
 
-pub fn wide(p: &Panel, lines: u8, w: &mut [u64], r: &mut [u8]) -> u64 {
+fn wide(p: &Panel, lines: u8, w: &mut [u64], r: &mut [u8]) -> u64 {
     called(dushvaneth_wide_pulse, p, lines, w, r)
-}
-
-// The same in a run of modules.
-pub fn wide_in(p: &Panel, lines: u8, first: usize, count: usize, w: &mut [u64], r: &mut [u8]) -> u64 {
-    let panel = registers(p);
-    let mut answer = [0; 4];
-    let number = unsafe {
-        dushvaneth_wide_pulse_in(
-            w.as_mut_ptr(), w.len(), r.as_mut_ptr(), r.len(), p.width, panel.as_ptr(), panel.len(), lines, first, count,
-            answer.as_mut_ptr(), answer.len(),
-        )
-    };
-    (number as u64) << 32 | answer[2]
 }
 
 fn cells(p: &Panel, lines: u8, w: &mut [u64], r: &mut [u8]) -> u64 {

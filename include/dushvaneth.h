@@ -5,8 +5,8 @@
  * a record of bytes. The library keeps nothing, allocates nothing and never stops the program.
  *
  * EVERY CALL TAKES ANY INPUT. Each function returns 0 if it accepted, or else the number of a refusal: always the one that comes
- * first, of all that apply, in the order 1 to 6, 13, 7, 20 to 25, 9, 10, 11 (the array's calls have an order of their own, below),
- * and everything that was lent to it then stands as before, but for the answer. A null pointer with length 0 is an empty buffer.
+ * first, of all that apply, in the order 1 to 7, 20 to 25, 9, 10, 11 (the array's calls have an order of their own, below), and
+ * everything that was lent to it then stands as before, but for the answer. A null pointer with length 0 is an empty buffer.
  *
  * THE ANSWER. Each function but dushvaneth_load has an answer, its last buffer: the first number is the refusal's number (the one
  * returned), the second what a refusal also answers, the others are the call's values, all 0 on a refusal. A longer buffer is
@@ -51,10 +51,7 @@ enum dushvaneth_number {
     DUSHVANETH_REFUSED_TWO_CODES = 5,
     /* No line is raised, three or more are, or complement is raised with another. Also: bit 7 of the line byte. */
     DUSHVANETH_REFUSED_WRONG_LINES = 6,
-    /* A run of modules is named, and it is empty or goes past the last module. */
-    DUSHVANETH_REFUSED_NO_SUCH_RUN = 13,
-    /* Read, write or add is raised, and the address is the number of words or more, or outside the run of modules that is named; or the
-     * word asked about is. */
+    /* Read, write or add is raised, and the address is the number of words or more; or the word asked about is. */
     DUSHVANETH_REFUSED_NO_SUCH_WORD = 7,
     /* A syllable that the job uses has width 0. The answer also says the syllable: enum dushvaneth_syllable. */
     DUSHVANETH_REFUSED_EMPTY_SYLLABLE = 20,
@@ -322,75 +319,6 @@ uint32_t dushvaneth_write(const uint64_t *words, size_t words_length, const dush
 uint32_t dushvaneth_read(const uint8_t *image, size_t image_length, uint64_t *words, size_t words_length,
                          dushvaneth_response *responses, size_t responses_length, uint8_t *job, size_t job_length,
                          uint64_t *answer, size_t answer_length);
-
-/* ---- runs of modules
- *
- * A module is DUSHVANETH_MODULE words: module 0 has the words 0 to 127, module 1 those from 128 on. The last module of a machine may be
- * short. Each call below is the one of the same name without `_in`, in a run of modules: `first` is the number of its first module, `count`
- * how many there are, any two numbers. What it does concerns the run's words only: where it says above 'all words', 'all others' or 'the word
- * that show would give', they are the run's, and nothing outside changes. The machine is lent whole, and a word has the same number as ever:
- * what is answered, the address, the word asked about, the word answered for and the place in a list of verdicts. 1 to 6 judge the whole
- * machine, so that 3 may name a word outside the run; 13 comes after 6 and before 7. The run of all modules, first 0, gives exactly what the
- * call without a run gives.
- *
- * A start and an image have no run: an image is always of the whole machine. Name the same run at each step of a job, and at each call of a
- * round, also after a stop. */
-
-#define DUSHVANETH_MODULE 128 /* how many words a module has, but for the last one */
-
-/* One pulse in a run. The count is of the run's words. Returns 1 to 6, 13, 7, 10; 7 also for an address outside the run, if read, write or
- * add is raised. */
-uint32_t dushvaneth_wide_pulse_in(uint64_t *words, size_t words_length, dushvaneth_response *responses, size_t responses_length,
-                                  uint32_t width, const uint64_t *panel, size_t panel_length, uint8_t lines, size_t first,
-                                  size_t count, uint64_t *answer, size_t answer_length);
-
-/* The same pulse worked out cell by cell. Returns 1 to 6, 13, 7, 10. */
-uint32_t dushvaneth_cells_pulse_in(uint64_t *words, size_t words_length, dushvaneth_response *responses, size_t responses_length,
-                                   uint32_t width, const uint64_t *panel, size_t panel_length, uint8_t lines, size_t first,
-                                   size_t count, uint64_t *answer, size_t answer_length);
-
-/* Says of one word of the run why a search in the run picks it, or why it does not. Returns 1 to 5, 13, 7, 10; 7 also for a word outside
- * the run. */
-uint32_t dushvaneth_explain_in(const uint64_t *words, size_t words_length, const dushvaneth_response *responses,
-                               size_t responses_length, uint32_t width, const uint64_t *panel, size_t panel_length, size_t word,
-                               size_t first, size_t count, uint64_t *answer, size_t answer_length);
-
-/* Finds the lowest selected word of the run by a scan. Returns 1 to 3, 13, 10. */
-uint32_t dushvaneth_scan_in(const uint64_t *words, size_t words_length, const dushvaneth_response *responses,
-                            size_t responses_length, uint32_t width, dushvaneth_response key, dushvaneth_response care,
-                            size_t first, size_t count, uint64_t *answer, size_t answer_length);
-
-/* The same by a tree. Returns 1 to 3, 13, 10. */
-uint32_t dushvaneth_network_in(const uint64_t *words, size_t words_length, const dushvaneth_response *responses,
-                               size_t responses_length, uint32_t width, dushvaneth_response key, dushvaneth_response care,
-                               size_t first, size_t count, uint64_t *answer, size_t answer_length);
-
-/* Shows the lowest word of the run that has response bit x, or none. Returns 1 to 3, 13, 23, 10. */
-uint32_t dushvaneth_show_in(const uint64_t *words, size_t words_length, const dushvaneth_response *responses,
-                            size_t responses_length, uint32_t width, uint8_t x, size_t first, size_t count, uint64_t *answer,
-                            size_t answer_length);
-
-/* Answers for the word that dushvaneth_show_in, in the same run, would give now; any other word, in the run or outside it, is 11. Returns 1
- * to 3, 13, 23, 24, 10, 11. */
-uint32_t dushvaneth_answer_in(const uint64_t *words, size_t words_length, dushvaneth_response *responses, size_t responses_length,
-                              uint32_t width, uint8_t x, uint8_t f, size_t word, uint8_t verdict, size_t first, size_t count,
-                              uint64_t *answer, size_t answer_length);
-
-/* A whole round in the run: each word's verdict stands at its own number, so that those before the run's first word are not looked at.
- * Returns 1 to 3, 13, 23, 24, 10. */
-uint32_t dushvaneth_round_in(const uint64_t *words, size_t words_length, dushvaneth_response *responses, size_t responses_length,
-                             uint32_t width, uint8_t x, uint8_t f, const uint8_t *verdicts, size_t verdicts_length, size_t first,
-                             size_t count, uint64_t *answer, size_t answer_length);
-
-/* Gives the next pulse of the held job to the run's words. Returns 1 to 3, 13, 20 to 25, 10. */
-uint32_t dushvaneth_step_in(uint64_t *words, size_t words_length, dushvaneth_response *responses, size_t responses_length,
-                            uint32_t width, uint8_t *job, size_t job_length, size_t first, size_t count, uint64_t *answer,
-                            size_t answer_length);
-
-/* How many pulses the job, just started, will take in the run. Returns 1 to 3, 13, 20 to 25, 10. */
-uint32_t dushvaneth_total_in(const uint64_t *words, size_t words_length, const dushvaneth_response *responses,
-                             size_t responses_length, uint32_t width, const uint8_t *job, size_t job_length, size_t first,
-                             size_t count, uint64_t *answer, size_t answer_length);
 
 /* ---- the array of three-state cells
  *

@@ -349,6 +349,4 @@ static uint32_t faulty_array_wide(uint64_t *ones, size_t n, uint64_t *xs, size_t
     return r;
 }
 
-#include "run_faults.c"
-
-enum { faults = 80 };
+enum { faults = 38 };

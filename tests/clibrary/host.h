@@ -26,14 +26,7 @@ static unsigned long ended[ENDS];
 
 static size_t any_size(void)
 {
-    return once_in(150) ? 1023 + below(2) : once_in(10) ? 1 + below(130) : 1 + below(12);
-}
-
-/* Two to four modules, the last often full, or one word short of it or past it. More would take too long to have them often. */
-static size_t several_modules(void)
-{
-    uint64_t full = once_in(3) ? 2 + below(2) : 1;
-    return DUSHVANETH_MODULE * full + (once_in(4) ? DUSHVANETH_MODULE - 1 + below(3) : 1 + below(40));
+    return once_in(60) ? 1023 + below(2) : once_in(10) ? 1 + below(130) : 1 + below(12);
 }
 
 static uint32_t any_width(void)
@@ -60,7 +53,7 @@ static void new_panel(void)
 static void new_host(void)
 {
     memset(&host, 0, sizeof host);
-    host.n = once_in(6) ? several_modules() : any_size();
+    host.n = any_size();
     host.width = any_width();
     for (size_t i = 0; i < host.n; i++) {
         host.words[i] = (once_in(2) && i > 0 ? host.words[i - 1] ^ (any() & any() & any() & any()) : any()) & ones(host.width);
@@ -117,21 +110,15 @@ static void load(void)
     made(false);
 }
 
-/* A pulse of either machine, the plain one only once in so many times where it would take long. */
-static void lend_pulse(int wide, int cells, unsigned times)
+static void pulse(void)
 {
     uint64_t first = once_in(2) ? 0 : below(6); /* a search, half of the time */
     if (once_in(2)) {
         new_panel();
     }
-    machine(once_in(2) || (host.n > 100 && !once_in(times)) ? wide : cells, true, true);
+    machine(once_in(2) || (host.n > 100 && !once_in(9)) ? at_wide_pulse : at_cells_pulse, true, true);
     lend(8, host.panel, DUSHVANETH_PANEL, NULL);
     give(once_in(8) ? DUSHVANETH_COMPLEMENT : 1u << first | (once_in(2) ? 1u << below(6) : 0));
-}
-
-static void pulse(void)
-{
-    lend_pulse(at_wide_pulse, at_cells_pulse, 9);
     made(false);
     count_pulse();
 }
@@ -238,21 +225,15 @@ static void answer(void)
     made(false);
 }
 
-/* A whole round with so many verdicts. */
-static void lend_round(int which, size_t length)
-{
-    uint8_t verdicts[MOST];
-    for (size_t i = 0; i < length; i++) {
-        verdicts[i] = (uint8_t)(below(9) == 0 ? any() : below(2));
-    }
-    machine(which, false, true);
-    give_bits();
-    lend(1, verdicts, length, NULL);
-}
-
 static void whole_round(void)
 {
-    lend_round(at_round, below(host.n + 3));
+    uint8_t verdicts[MOST];
+    for (size_t i = 0; i < sizeof verdicts; i++) {
+        verdicts[i] = (uint8_t)(below(9) == 0 ? any() : below(2));
+    }
+    machine(at_round, false, true);
+    give_bits();
+    lend(1, verdicts, below(host.n + 3), NULL);
     made(false);
 }
 

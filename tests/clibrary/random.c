@@ -10,7 +10,6 @@
 #include "unfit.h"
 #include "explains.h"
 #include "host.h"
-#include "runs.h"
 #ifdef FAULTS
 #include <sys/wait.h>
 #endif
@@ -19,10 +18,8 @@
 
 static void play(unsigned long s)
 {
-    static void (*const all[])(void) = {load, pulse, pulse, pulse, explain, explain, explain, resolve, show, answer, answer, whole_round, start,
-                                        step, total, write_image, read_image, operate, operate};
-    static void (*const in_run[])(void) = {pulse_in, pulse_in, pulse_in, explain_in, explain_in, resolve_in, resolve_in, resolve_in, show_in,
-                                           show_in, answer_in, answer_in, round_in, round_in, step_in, total_in, start_in, start_in};
+    static void (*const all[])(void) = {load, pulse, pulse, explain, explain, resolve, show, answer, answer, whole_round, start, step, step,
+                                        total, write_image, read_image, operate, operate};
     seed = s;
     call = 0;
     state = (s + 1) * 0x9E3779B97F4A7C15u;
@@ -31,10 +28,7 @@ static void play(unsigned long s)
     }
     new_host();
     while (call < CALLS) {
-        bool run = host.n > DUSHVANETH_MODULE ? !once_in(5) : once_in(4); /* where there are several modules, mostly */
-        (host.held && once_in(3) ? run ? step_in : step
-         : run                   ? in_run[below(sizeof in_run / sizeof *in_run)]
-                                 : all[below(sizeof all / sizeof *all)])();
+        (host.held && once_in(3) ? step : all[below(sizeof all / sizeof *all)])();
     }
 }
 
@@ -72,21 +66,11 @@ static unsigned long report_explained(unsigned long *failed)
     return passed + report_named(asked_as + LARGER_AND_SMALLER, equal_by + LARGER_AND_SMALLER, 2, LEAST_EXPLAINED, failed);
 }
 
-/* Runs of modules, what met 13, and where the whole machine would have come to another end. */
-static unsigned long report_runs(unsigned long *failed)
-{
-    unsigned long passed = report_named(runs_as, runs, RUNS, LEAST, failed);
-    passed += report_named(before_as, before_13, BEFORE, LEAST, failed);
-    passed += report_named(after_as, after_13, AFTER, LEAST, failed);
-    passed += report_named(outside_as, outsides, OUTSIDE, LEAST, failed);
-    return passed + report_named(run_ends, run_ended, RUN_ENDS, LEAST, failed);
-}
-
 static unsigned long report(unsigned long *failed)
 {
     unsigned long passed = 0, calls = 0;
     for (int i = 0; i < functions; i++) {
-        printf("%-14s", told[i].name);
+        printf("%-12s", told[i].name);
         for (int r = 0; r < NUMBERS; r++) {
             calls += counts[i][r];
             if ((told[i].numbers >> r & 1) == 1) {
@@ -99,7 +83,6 @@ static unsigned long report(unsigned long *failed)
     passed += report_named(ends, ended, ENDS, LEAST, failed);
     passed += report_named(searched_as, searched, SEARCHED, LEAST, failed);
     passed += report_explained(failed);
-    passed += report_runs(failed);
     for (size_t k = 0; k < sizeof judging / sizeof *judging; k++) {
         printf("%-12s ", told[judging[k]].name);
         passed += report_named(named_as, named[judging[k]], NAMED, LEAST, failed);

@@ -1,7 +1,6 @@
 /* A host's whole story on the header alone: households are loaded and searched, staff ask why one was not picked, jobs run with a stop and a
- * resume from the image at each pulse, and a round hands the due ones out, with a faulty one and a stop at each place. Then a town, of which one
- * village does the same in its own module. What must come out was worked out by hand from document 01 and requests c to f of document 02. The last
- * line is 'N passed, M failed'. */
+ * resume from the image at each pulse, and a round hands the due ones out, with a faulty one and a stop at each place. What must come out was
+ * worked out by hand from document 01 and requests c, d and e of document 02. The last line is 'N passed, M failed'. */
 #include <dushvaneth.h>
 #include <stdio.h>
 #include <string.h>
@@ -353,129 +352,6 @@ static void rounds(void)
     CHECK(answer[DUSHVANETH_FOUND], 0);
 }
 
-/* ---- a town of two modules, and the village that is in the second one, households 128 to 199 */
-
-enum { TOWN = 200, VILLAGE = DUSHVANETH_MODULE };
-
-static uint64_t town[TOWN];
-static dushvaneth_response marks[TOWN];
-static uint8_t town_image[DUSHVANETH_IMAGE(TOWN, 1)];
-
-#define TOWNS town, TOWN, marks, TOWN, WIDTH
-#define RUN VILLAGE / DUSHVANETH_MODULE, 1
-
-/* The village's marks are 0 but for these two; all others are due since yesterday. */
-static void check_marks(int line, dushvaneth_response mark_150, dushvaneth_response mark_151)
-{
-    int i;
-    for (i = 0; i < TOWN; i++) {
-        check(line, "a mark", marks[i], i < VILLAGE ? 1 << DUE : i == 150 ? mark_150 : i == 151 ? mark_151 : 0);
-        check(line, "a household", town[i], (uint64_t)(i % 16 << 12 | i % 50));
-    }
-}
-
-/* Each household has its number modulo 16 as points and modulo 50 as day: in the village 150 and 151 are due by day 1. 152 is due on day 2, which
- * is 10 where at most 01 is asked for, so bit 1 settles against it. 50, due on day 0, is no household of the village. */
-static void search_the_village(void)
-{
-    uint64_t panel[DUSHVANETH_PANEL];
-    dushvaneth_blank(panel);
-    dushvaneth_ask(panel, 0, 8, DUSHVANETH_AT_MOST, 1);
-    panel[DUSHVANETH_TARGET] = 1 << DUE;
-    panel[DUSHVANETH_ADDRESS] = 151;
-    CHECK(dushvaneth_wide_pulse_in(TOWNS, panel, DUSHVANETH_PANEL, DUSHVANETH_SEARCH, 1, 2, ANSWER), DUSHVANETH_REFUSED_NO_SUCH_RUN);
-    CHECK(dushvaneth_wide_pulse_in(TOWNS, panel, DUSHVANETH_PANEL, DUSHVANETH_SEARCH, RUN, ANSWER), 0);
-    CHECK(answer[DUSHVANETH_PULSE_COUNT], 2);
-    check_marks(__LINE__, 1 << DUE, 1 << DUE);
-    CHECK(dushvaneth_cells_pulse_in(TOWNS, panel, DUSHVANETH_PANEL, DUSHVANETH_SEARCH | DUSHVANETH_READ, RUN, ANSWER), 0);
-    CHECK(answer[DUSHVANETH_PULSE_READ], 0x7001);
-    panel[DUSHVANETH_ADDRESS] = 50;
-    CHECK(dushvaneth_cells_pulse_in(TOWNS, panel, DUSHVANETH_PANEL, DUSHVANETH_READ, RUN, ANSWER), DUSHVANETH_REFUSED_NO_SUCH_WORD);
-    CHECK(dushvaneth_explain_in(TOWNS, panel, DUSHVANETH_PANEL, 150, RUN, ANSWER), 0);
-    CHECK(answer[DUSHVANETH_EXPLAINED_REASON], DUSHVANETH_MATCHED);
-    CHECK(dushvaneth_explain_in(TOWNS, panel, DUSHVANETH_PANEL, 152, RUN, ANSWER), 0);
-    CHECK(answer[DUSHVANETH_EXPLAINED_REASON], DUSHVANETH_AGAINST);
-    CHECK(answer[DUSHVANETH_EXPLAINED_BIT], 1);
-    CHECK(dushvaneth_explain_in(TOWNS, panel, DUSHVANETH_PANEL, 50, RUN, ANSWER), DUSHVANETH_REFUSED_NO_SUCH_WORD);
-    check_marks(__LINE__, 1 << DUE, 1 << DUE);
-}
-
-/* The whole town is stored, and gone on from. */
-static void town_stop(void)
-{
-    CHECK(dushvaneth_write(TOWNS, job, held, town_image, sizeof town_image, ANSWER), 0);
-    memset(town, 0xA5, sizeof town);
-    memset(marks, 0xA5, sizeof marks);
-    CHECK(dushvaneth_read(town_image, DUSHVANETH_IMAGE(TOWN, held > 0), town, TOWN, marks, TOWN, job, sizeof job, ANSWER), 0);
-    CHECK(dushvaneth_record_length(answer[DUSHVANETH_IMAGE_HELD]), held);
-}
-
-/* The greatest of the points: of 6 and 7 in the village 7, which has three ones, so 1 + 4 + 3 pulses; in the town, where 15 is due, 9. 151 keeps X,
- * and Y of the last trial. */
-static void greatest_of_the_village(void)
-{
-    int pulses = 0;
-    fill(DUSHVANETH_GREATEST, 12, 0, 0);
-    CHECK(dushvaneth_start(TOWNS, NULL, 0, job, sizeof job, ANSWER), 0);
-    held = dushvaneth_record_length(answer[DUSHVANETH_START_HELD]);
-    CHECK(dushvaneth_total(TOWNS, job, held, ANSWER), 0);
-    CHECK(answer[DUSHVANETH_TOTAL_PULSES], 9);
-    CHECK(dushvaneth_total_in(TOWNS, job, held, RUN, ANSWER), 0);
-    CHECK(answer[DUSHVANETH_TOTAL_PULSES], 8);
-    while (held > 0 && pulses < 100) {
-        town_stop();
-        CHECK(dushvaneth_step_in(TOWNS, job, held, 2, 1, ANSWER), DUSHVANETH_REFUSED_NO_SUCH_RUN);
-        CHECK(dushvaneth_step_in(TOWNS, job, held, RUN, ANSWER), 0);
-        held = dushvaneth_record_length(answer[DUSHVANETH_STEP_HELD]);
-        pulses++;
-    }
-    CHECK(pulses, 8);
-    check_marks(__LINE__, 1 << DUE, 1 << DUE | 1 << X | 1 << Y);
-}
-
-/* The village's round, with a stop before each answer: 150 is done, 151 faulty, and the rest of the town is still due. At once it is the same. */
-static void round_of_the_village(void)
-{
-    static uint8_t verdicts[TOWN];
-    dushvaneth_response before[TOWN];
-    size_t word;
-    memcpy(before, marks, sizeof before);
-    for (word = 150; word <= 151; word++) {
-        town_stop();
-        CHECK(dushvaneth_show_in(TOWNS, DUE, RUN, ANSWER), 0);
-        CHECK(answer[DUSHVANETH_FOUND_WORD], word);
-        CHECK(dushvaneth_answer_in(TOWNS, DUE, FAULTY, 0, DUSHVANETH_DONE, RUN, ANSWER), DUSHVANETH_REFUSED_NOT_SHOWN);
-        CHECK(dushvaneth_answer_in(TOWNS, DUE, FAULTY, word, word == 150 ? DUSHVANETH_DONE : DUSHVANETH_FAULTY, RUN, ANSWER), 0);
-    }
-    CHECK(dushvaneth_show_in(TOWNS, DUE, RUN, ANSWER), 0);
-    CHECK(answer[DUSHVANETH_FOUND], 0);
-    CHECK(dushvaneth_show(TOWNS, DUE, ANSWER), 0);
-    CHECK(answer[DUSHVANETH_FOUND], 1);
-    check_marks(__LINE__, 0, 1 << FAULTY | 1 << X | 1 << Y);
-    memcpy(marks, before, sizeof before);
-    verdicts[150] = DUSHVANETH_DONE;
-    CHECK(dushvaneth_round_in(TOWNS, DUE, FAULTY, verdicts, sizeof verdicts, RUN, ANSWER), 0);
-    CHECK(answer[DUSHVANETH_ROUND_DONE], 1);
-    CHECK(answer[DUSHVANETH_ROUND_FAULTY], 1);
-    check_marks(__LINE__, 0, 1 << FAULTY | 1 << X | 1 << Y);
-    CHECK(dushvaneth_scan_in(TOWNS, 1 << FAULTY, 1 << FAULTY, RUN, ANSWER), 0);
-    CHECK(answer[DUSHVANETH_FOUND_WORD], 151);
-    CHECK(dushvaneth_network_in(TOWNS, 1 << DUE, 1 << DUE, RUN, ANSWER), 0);
-    CHECK(answer[DUSHVANETH_FOUND], 0);
-}
-
-static void village(void)
-{
-    int i;
-    for (i = 0; i < TOWN; i++) {
-        town[i] = (uint64_t)(i % 16 << 12 | i % 50);
-        marks[i] = i < VILLAGE ? 1 << DUE : 0;
-    }
-    search_the_village();
-    greatest_of_the_village();
-    round_of_the_village();
-}
-
 int main(void)
 {
     search();
@@ -484,7 +360,6 @@ int main(void)
     why();
     jobs();
     rounds();
-    village();
     printf("%d passed, %d failed\n", passed, failed);
     return failed != 0;
 }

@@ -14,8 +14,7 @@
 
 #define FUNCTIONS(X)                                                                                                              \
     X(load) X(wide_pulse) X(cells_pulse) X(explain) X(scan) X(network) X(show) X(answer) X(round) X(start) X(step) X(total)        \
-    X(write) X(read) X(wide_pulse_in) X(cells_pulse_in) X(explain_in) X(scan_in) X(network_in) X(show_in) X(answer_in)             \
-    X(round_in) X(step_in) X(total_in) X(array_wide) X(array_cells)
+    X(write) X(read) X(array_wide) X(array_cells)
 #define SECOND(name) extern __typeof__(dushvaneth_##name) second_##name;
 FUNCTIONS(SECOND)
 #define PLACE(name) at_##name,
@@ -46,11 +45,9 @@ static const struct {
 static const size_t answers[functions] = {0, DUSHVANETH_PULSE_ANSWER, DUSHVANETH_PULSE_ANSWER, DUSHVANETH_EXPLAINED_ANSWER,
     DUSHVANETH_RESOLVED_ANSWER, DUSHVANETH_RESOLVED_ANSWER, DUSHVANETH_RESOLVED_ANSWER, DUSHVANETH_REPLY_ANSWER, DUSHVANETH_ROUND_ANSWER,
     DUSHVANETH_START_ANSWER, DUSHVANETH_STEP_ANSWER, DUSHVANETH_TOTAL_ANSWER, DUSHVANETH_IMAGE_WRITE_ANSWER, DUSHVANETH_IMAGE_READ_ANSWER,
-    DUSHVANETH_PULSE_ANSWER, DUSHVANETH_PULSE_ANSWER, DUSHVANETH_EXPLAINED_ANSWER, DUSHVANETH_RESOLVED_ANSWER, DUSHVANETH_RESOLVED_ANSWER,
-    DUSHVANETH_RESOLVED_ANSWER, DUSHVANETH_REPLY_ANSWER, DUSHVANETH_ROUND_ANSWER, DUSHVANETH_STEP_ANSWER, DUSHVANETH_TOTAL_ANSWER,
     DUSHVANETH_ARRAY_ANSWER, DUSHVANETH_ARRAY_ANSWER};
 
-enum { CALLS = 40, LEAST = 5, MOST = 1100, REGION = 16384, BUFFERS = 5, OTHERS = 7 };
+enum { CALLS = 40, LEAST = 5, MOST = 1100, REGION = 16384, BUFFERS = 5 };
 
 /* The status of a run that found a difference; a sanitizer's own is another. */
 enum { FOUND = 3 };
@@ -92,7 +89,7 @@ struct lent {
 static struct {
     int which, buffers, numbers;
     struct lent lent[BUFFERS];
-    uint64_t number[OTHERS];
+    uint64_t number[5];
     bool spoilt;  /* something isn't the host's own, so that no outcome goes home */
     bool no_room; /* the answer's buffer is to be too short */
     uint32_t returned;
@@ -157,16 +154,6 @@ static uint32_t answer_of(int side)
         ON(total, B(0), B(1), N(0), B(2), B(3));
         ON(write, B(0), B(1), N(0), B(2), B(3), B(4));
         ON(read, B(0), B(1), B(2), B(3), B(4));
-        ON(wide_pulse_in, B(0), B(1), N(0), B(2), N(1), N(2), N(3), B(3));
-        ON(cells_pulse_in, B(0), B(1), N(0), B(2), N(1), N(2), N(3), B(3));
-        ON(explain_in, B(0), B(1), N(0), B(2), N(1), N(2), N(3), B(3));
-        ON(scan_in, B(0), B(1), N(0), N(1), N(2), N(3), N(4), B(2));
-        ON(network_in, B(0), B(1), N(0), N(1), N(2), N(3), N(4), B(2));
-        ON(show_in, B(0), B(1), N(0), N(1), N(2), N(3), B(2));
-        ON(answer_in, B(0), B(1), N(0), N(1), N(2), N(3), N(4), N(5), N(6), B(2));
-        ON(round_in, B(0), B(1), N(0), N(1), N(2), B(2), N(3), N(4), B(3));
-        ON(step_in, B(0), B(1), N(0), B(2), N(1), N(2), B(3));
-        ON(total_in, B(0), B(1), N(0), B(2), N(1), N(2), B(3));
         ON(array_wide, B(0), B(1), B(2), B(3), N(0), N(1), B(4));
         ON(array_cells, B(0), B(1), B(2), B(3), N(0), N(1), B(4));
     }
@@ -232,9 +219,8 @@ static void hold_answer(uint32_t r, const struct lent *b, const uint64_t *answer
     }
 }
 
-/* What is held of an explanation besides, and of a call in a run of modules: explains.h and runs.h. */
+/* What is held of an explanation besides: explains.h. */
 static void hold_explanation(void);
-static void hold_run(void);
 
 static void hold(uint32_t r, uint32_t second)
 {
@@ -262,9 +248,6 @@ static void hold(uint32_t r, uint32_t second)
     hold_answer(r, &now.lent[last], at(0, last));
     if (now.which == at_explain) {
         hold_explanation();
-    }
-    if (now.which >= at_wide_pulse_in && now.which <= at_total_in) {
-        hold_run();
     }
 }
 

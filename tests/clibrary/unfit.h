@@ -6,7 +6,7 @@
 static const char *const named_as[] = {"20 A", "20 B", "20 P", "21 A", "21 B", "21 P", "22 A", "22 B", "before 10"};
 enum { BEFORE_10 = 8, NAMED };
 static unsigned long named[functions][NAMED];
-static const int judging[] = {at_start, at_step, at_total, at_write, at_step_in, at_total_in};
+static const int judging[] = {at_start, at_step, at_total, at_write};
 
 /* One of the syllables that a job uses: B is for products only, so it is taken more often there, and P not for extremes. */
 static uint8_t *any_syllable(uint8_t *job)
@@ -81,12 +81,12 @@ static void make_unfit(uint8_t *job, uint64_t width)
 /* Where a writing's image stands among its buffers. */
 enum { WRITTEN = 3 };
 
-/* The record that is lent as buffer k, if one is, with something wrong once in so many times, and at times no room either. Where it is accepted
- * for all that, it is another job than the host's, so that nothing of the call is carried on. */
-static void perhaps_unfit(int k, unsigned times)
+/* The record that is lent as buffer k, if one is, with something wrong now and then, and at times no room either. Where it is accepted for all
+ * that, it is another job than the host's, so that nothing of the call is carried on. */
+static void perhaps_unfit(int k)
 {
     struct lent *record = &now.lent[k];
-    if (record->length != DUSHVANETH_RECORD || !once_in(times)) {
+    if (record->length != DUSHVANETH_RECORD || !once_in(3)) {
         return;
     }
     make_unfit(record->bytes, now.number[0]);
@@ -114,7 +114,7 @@ static void count_named(void)
 /* A call that judges the job in buffer k. */
 static bool made_with_job(int k, bool sound)
 {
-    perhaps_unfit(k, 3);
+    perhaps_unfit(k);
     bool home = made(sound);
     count_named();
     return home;

@@ -91,14 +91,14 @@ module _ (d : Desk) (name : List ℕ) (args : List (List ℕ)) (k : ℕ) where
         (out ≡ (marked d name args).outcome) × ((d.words ≡ (marked d name args).words) × ((d.responses ≡ (marked d name args).responses) × (bytes ≡ (marked d name args).bytes)))
     mark_other h out bytes f g = mark_parts _ _ (marked_none h) out _ _ bytes f refl refl g
 
-  module _ (is : k ≡ place_of name (words_of (ascii "load job drop start step run modules"))) where
+  module _ (is : k ≡ place_of name (words_of (ascii "load job drop start step run"))) where
     changed_at : (n : ℕ) → k ≡ n → changed d name args ≡ get_or (changes d args) n (unchanged d (marked d name args))
     unfolding changed
-    changed_at n f = at_place "load job drop start step run modules" name (changes d args) (unchanged d (marked d name args)) k n is f
+    changed_at n f = at_place "load job drop start step run" name (changes d args) (unchanged d (marked d name args)) k n is f
 
-    changed_none : 7 ≤ k → changed d name args ≡ unchanged d (marked d name args)
+    changed_none : 6 ≤ k → changed d name args ≡ unchanged d (marked d name args)
     unfolding changed
-    changed_none h = past_end "load job drop start step run modules" name (changes d args) (unchanged d (marked d name args)) k is h
+    changed_none h = past_end "load job drop start step run" name (changes d args) (unchanged d (marked d name args)) k is h
 
     pub change_arm : (n : ℕ) → k ≡ n → (t : Turn) (words responses bytes : List ℕ) →
         t ≡ (get_or (changes d args) n (unchanged d (marked d name args))).turn →
@@ -108,7 +108,7 @@ module _ (d : Desk) (name : List ℕ) (args : List (List ℕ)) (k : ℕ) where
         (t ≡ (changed d name args).turn) × ((words ≡ (changed d name args).words) × ((responses ≡ (changed d name args).responses) × (bytes ≡ (changed d name args).bytes)))
     change_arm n f = change_parts _ _ (changed_at n f)
 
-    pub change_other : 7 ≤ k → (out : Outcome) (words responses bytes : List ℕ) → out ≡ (marked d name args).outcome →
+    pub change_other : 6 ≤ k → (out : Outcome) (words responses bytes : List ℕ) → out ≡ (marked d name args).outcome →
         words ≡ (marked d name args).words → responses ≡ (marked d name args).responses → bytes ≡ (marked d name args).bytes →
         (◌≡◌ {A = Turn} (record { board = d.board; outcome = out }) (changed d name args).turn) × ((words ≡ (changed d name args).words)
         × ((responses ≡ (changed d name args).responses) × (bytes ≡ (changed d name args).bytes)))

@@ -9,20 +9,20 @@ use lib.Dec.{leb, ltb}
 use lib.ListN.{length, get_or, take-append-drop}
 use Rattle.laws.specs.Bits.{pick}
 use Rattle.machine.specs.Machine.{Machine}
+use Rattle.machine.specs.Refusals.{answer_of}
 use Rattle.machine.specs.declared.Panel.{Panel}
-use Rattle.jobs.specs.Calls.{start_of}
+use Rattle.rounds.specs.Round.{reply_of}
+use Rattle.jobs.specs.Calls.{start_of, step_of}
 use Rattle.image.specs.Calls.{read_of}
 use Rattle.text.specs.Ascii.{ascii}
 use Rattle.text.specs.Words.{words_of, place_of}
 use Rattle.text.specs.Rows.{fits, values}
 use Rattle.text.specs.declared.Number.{Number}
 use Rattle.text.specs.declared.Number.TheVariants.{Is, Bad}
-use Rattle.console_runs.specs.declared.Scope.{Scope}
-use Rattle.console_runs.specs.Scopes.{answer_for, reply_for, step_for}
 use Rattle.console_commands.specs.declared.Board.{Board}
 use Rattle.console_commands.specs.declared.Outcome.TheVariants as outcome
 use Rattle.console_commands.specs.Ends.{bad_line}
-use Rattle.console_setting.specs.Settings.{register_names, letter_for, loaded, hits, is_all, run_named}
+use Rattle.console_setting.specs.Settings.{register_names, letter_for, loaded, hits}
 use Rattle.console_pulsing.specs.declared.Named.{Named}
 use Rattle.console_pulsing.specs.declared.Named.TheVariants as lines
 use Rattle.console_pulsing.specs.Lines.{lines_of}
@@ -61,22 +61,16 @@ entry p names name does = entry_at p does (place_of name (words_of (ascii names)
 
 -- ---- the commands with more ways than right and wrong
 
-pulse_still : (u : Scope) (l : Named) (m : Machine) (p : Panel) (b : Board) → pulse_outcome u l m p ≡ outcome.BadLine →
-    (b ≡ b) × ((pulse_after u l m p).words ≡ m.words) × ((pulse_after u l m p).responses ≡ m.responses)
-pulse_still u (lines.Are l) m p b e = let no = told_other (answer_for u m p l) e in (refl, cc, cc)
-pulse_still u lines.Bad m p b e = (refl, refl, refl)
+pulse_still : (l : Named) (m : Machine) (p : Panel) (b : Board) → pulse_outcome l m p ≡ outcome.BadLine →
+    (b ≡ b) × ((pulse_after l m p).words ≡ m.words) × ((pulse_after l m p).responses ≡ m.responses)
+pulse_still (lines.Are l) m p b e = let no = told_other (answer_of m p l) e in (refl, cc, cc)
+pulse_still lines.Bad m p b e = (refl, refl, refl)
 
 load_still : (b : Board) (args : List (List ℕ)) → (loaded b args).outcome ≡ outcome.BadLine → (loaded b args).board ≡ b
 unfolding loaded
 load_still b [] e = refl
 load_still b (name ∷ args) e =
     let k = place_of name register_names in rw (wrong_turn (ltb k 10 && fits (letter_for k) args) _ _ e fine_other) refl
-
-run_still : (b : Board) (args : List (List ℕ)) → (run_named b args).outcome ≡ outcome.BadLine → (run_named b args).board ≡ b
-run_still b args e =
-    let all = wrong_turn (is_all args) _ _ e fine_other in
-    let right = wrong_turn (fits "aa" args) _ _ (rw all at e) fine_other in
-    rw (all, right) refl
 
 read_still : (b : Board) (n : Number) (image : List ℕ) (fit : Bool) (w r : ℕ) (words responses : List ℕ) →
     (read_turn b n image fit w r).outcome ≡ outcome.BadLine → ((read_turn b n image fit w r).board ≡ b)
@@ -90,9 +84,9 @@ read_still b Bad image fit w r words responses e = (refl, refl, refl)
 module _ (d : Desk) (args : List (List ℕ)) where
   markings_still : Each (λ a. Still d (unchanged d a)) (markings d args)
   markings_still =
-      let pulse = pulse_still d.board.scope (lines_of args) (machine_of d) d.board.panel d.board in
+      let pulse = pulse_still (lines_of args) (machine_of d) d.board.panel d.board in
       let row = values "bba" args in
-      let answer = replied_other (reply_for d.board.scope (bit_in row 0) (bit_in row 1) (word_in row) (machine_of d)) in
+      let answer = replied_other (reply_of (bit_in row 0) (bit_in row 1) (word_in row) (machine_of d)) in
       (λ e. rw (wrong (hits "ax" args d.words) _ e fine_other) (refl, refl, refl))
       and (λ e. rw (wrong (hits "ah" args d.responses) _ e fine_other) (refl, refl, refl))
       and pulse
@@ -105,20 +99,19 @@ module _ (d : Desk) (args : List (List ℕ)) where
   changes_still =
       let b = d.board in
       let start = start_of (machine_of d) b.held (offered args) in
-      let step = step_for b.scope (machine_of d) b.held in
+      let step = step_of (machine_of d) b.held in
       (λ e. (load_still b args e, refl, refl))
       and (λ e. rw (wrong_turn (fits "bhhbbbbbbbbbbbx" args) _ _ e fine_other) (refl, refl, refl))
       and (λ e. rw (wrong_turn (fits "" args) _ _ e fine_other) (refl, refl, refl))
       and (λ e. rw (wrong_turn (fits "bhhbbbbbbbbx" args) _ _ e (begun_other b start)) (refl, refl, refl))
       and (λ e. rw (wrong_turn (fits "" args) _ _ e (given_other b step)) (refl, refl, refl))
       and (λ e. rw (wrong_turn (fits "" args) _ _ e (ran_other b step (state_of d))) (refl, refl, refl))
-      and (λ e. (run_still b args e, refl, refl))
       and tt
 
   changed_still : (name : List ℕ) → Still d (changed d name args)
   unfolding changed marked
   changed_still name =
-      entry (Still d) "load job drop start step run modules" name (changes d args) (unchanged d (marked d name args)) changes_still
+      entry (Still d) "load job drop start step run" name (changes d args) (unchanged d (marked d name args)) changes_still
       (entry (λ a. Still d (unchanged d a)) "word response pulse cells done faulty" name (markings d args)
       (unmarked d (looked d name args)) markings_still (λ e. (refl, refl, refl)))
 

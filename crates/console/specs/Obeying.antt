@@ -54,17 +54,16 @@ lookings d args =
     let m = machine_of d in
     let s = state_of d in
     let p = d.board.panel in
-    let u = d.board.scope in
     let room = length d.bytes in
     said d (settings.panel_told d.board args)
-    ∷ said d (calls.resolve_outcome u args m p)
-    ∷ said d (calls.resolve_outcome u args m p)
-    ∷ said d (calls.show_outcome u args m)
-    ∷ said d (jobs.total_outcome u args s)
+    ∷ said d (calls.resolve_outcome args m p)
+    ∷ said d (calls.resolve_outcome args m p)
+    ∷ said d (calls.show_outcome args m)
+    ∷ said d (jobs.total_outcome args s)
     ∷ record { outcome = images.store_outcome args s room; bytes = images.stored args s d.bytes }
     ∷ record { outcome = images.list_outcome args s room; bytes = images.stored args s d.bytes }
     ∷ record { outcome = images.room_outcome args s room; bytes = images.room_written args s d.bytes }
-    ∷ said d (calls.why_outcome u args m p)
+    ∷ said d (calls.why_outcome args m p)
     ∷ []
 
 unfoldable pub looked : Desk → List ℕ → List (List ℕ) → Looked
@@ -88,21 +87,20 @@ abbrev pub markings : Desk → List (List ℕ) → List Marked
 markings d args =
     let m = machine_of d in
     let p = d.board.panel in
-    let u = d.board.scope in
     let lines = naming.lines_of args in
-    let pulse = marks d (calls.pulse_outcome u lines m p) (calls.pulse_after u lines m p).words (calls.pulse_after u lines m p).responses in
+    let pulse = marks d (calls.pulse_outcome lines m p) (calls.pulse_after lines m p).words (calls.pulse_after lines m p).responses in
     marks d (settings.write_outcome "ax" args d.words) (settings.word_written args d.words) d.responses
     ∷ marks d (settings.write_outcome "ah" args d.responses) d.words (settings.response_written args d.responses)
     ∷ pulse
     ∷ pulse
-    ∷ marks d (calls.answer_outcome u args m) d.words (calls.answer_after u args Done m).responses
-    ∷ marks d (calls.answer_outcome u args m) d.words (calls.answer_after u args Faulty m).responses
+    ∷ marks d (calls.answer_outcome args m) d.words (calls.answer_after args Done m).responses
+    ∷ marks d (calls.answer_outcome args m) d.words (calls.answer_after args Faulty m).responses
     ∷ []
 
 unfoldable pub marked : Desk → List ℕ → List (List ℕ) → Marked
 marked d name args = among "word response pulse cells done faulty" name (markings d args) (unmarked d (looked d name args))
 
--- ---- those that change the panel, the held job or the run of modules that is named
+-- ---- those that change the panel or the held job
 
 pub record After : Type 0 where
   pub turn : Turn
@@ -131,18 +129,16 @@ abbrev pub changes : Desk → List (List ℕ) → List After
 changes d args =
     let b = d.board in
     let s = state_of d in
-    let u = b.scope in
     only d (settings.loaded b args)
     ∷ only d (settings.job_written b args)
     ∷ only d (settings.dropped b args)
     ∷ only d (jobs.start_turn b args s)
-    ∷ buffers d (jobs.step_turn b args s) (jobs.step_after u args s).machine.words (jobs.step_after u args s).machine.responses
-    ∷ buffers d (jobs.run_turn b args s) (jobs.run_after u args s).machine.words (jobs.run_after u args s).machine.responses
-    ∷ only d (settings.run_named b args)
+    ∷ buffers d (jobs.step_turn b args s) (jobs.step_after args s).machine.words (jobs.step_after args s).machine.responses
+    ∷ buffers d (jobs.run_turn b args s) (jobs.run_after args s).machine.words (jobs.run_after args s).machine.responses
     ∷ []
 
 unfoldable pub changed : Desk → List ℕ → List (List ℕ) → After
-changed d name args = among "load job drop start step run modules" name (changes d args) (unchanged d (marked d name args))
+changed d name args = among "load job drop start step run" name (changes d args) (unchanged d (marked d name args))
 
 -- ---- these on the machine's own entries, the first of the console's buffers
 

@@ -91,7 +91,7 @@ fn on_machine(
     )
 }
 
-// The commands that change the panel, the held job or the run of modules that is named.
+// The commands that change the panel or the held job.
 fn change(
     board: Board,
     name: &[u8],
@@ -105,14 +105,13 @@ fn change(
     ensures responses_after { responses.new ≡ (obeying.changed (obeying.desk board words.old responses.old bytes.old) name.now (words_of rest.now)).responses }
     ensures bytes_after { bytes.new ≡ (obeying.changed (obeying.desk board words.old responses.old bytes.old) name.now (words_of rest.now)).bytes }
 {
-    match text::words::which(b"load job drop start step run modules", name) {
+    match text::words::which(b"load job drop start step run", name) {
         0 => console_setting::load(board, rest),
         1 => console_setting::write_job(board, rest),
         2 => console_setting::drop_job(board, rest),
         3 => console_working::start(board, rest, words, responses),
         4 => console_working::step(board, rest, words, responses),
         5 => console_working::run(board, rest, words, responses),
-        6 => console_setting::name_run(board, rest),
         _ => Turn {
             board,
             outcome: mark(board, name, rest, words, responses, bytes),

@@ -3,13 +3,12 @@ use Rattle.std.specs.Prelude.{ℕ, []}
 use Rattle.machine.specs.Panel.{panel_of}
 use Rattle.job_plans.specs.declared.Held.{Held}
 use Rattle.job_plans.specs.declared.Held.TheVariants.{Nothing}
-use Rattle.console_runs.specs.declared.Scope.TheVariants.{All}
 use Rattle.console_commands.specs.declared.Board.{Board}
 
--- "width N, n words and n responses, all 0; panel all 0; no job"; of modules, "no run is named"
+-- "width N, n words and n responses, all 0; panel all 0; no job"
 abbrev pub fresh_board : ℕ → ℕ → Board
-fresh_board width n = record { width = width; words = n; responses = n; panel = panel_of []; held = Nothing; scope = All }
+fresh_board width n = record { width = width; words = n; responses = n; panel = panel_of []; held = Nothing }
 
 -- the board with another held job, or none
 abbrev pub holding : Board → Held → Board
-holding b held = record { width = b.width; words = b.words; responses = b.responses; panel = b.panel; held = held; scope = b.scope }
+holding b held = record { width = b.width; words = b.words; responses = b.responses; panel = b.panel; held = held }

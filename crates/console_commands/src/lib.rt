@@ -7,13 +7,12 @@ ghost use Rattle.console_commands.specs.Boards.{fresh_board, holding};
 ghost use Rattle.console_commands.specs.Ends as ends;
 ghost use Rattle.console_commands.specs.Jobs.{job_of};
 
-use console_runs::Scope;
 use explainer::Explained;
 use job_plans::{Command, Held, Job, Span};
 use machine::{BitSlice, Panel, Refusal, ResponseBit, WordSlice};
 use text::numbers;
 
-// The machine but for its two lent buffers, of which it says how many entries are its own, and the run of modules that commands name.
+// The machine but for its two lent buffers, of which it says how many entries are its own.
 #[derive(Drop)]
 pub struct Board {
     pub width: u32,
@@ -21,7 +20,6 @@ pub struct Board {
     pub responses: usize,
     pub panel: Panel,
     pub held: Held,
-    pub scope: Scope,
 }
 
 // What is to be printed of a line.
@@ -68,7 +66,6 @@ pub fn fresh(width: u32, words: usize) -> Board
         responses: words,
         panel,
         held: Held::Nothing,
-        scope: Scope::All,
     }
 }
 
@@ -106,14 +103,12 @@ pub fn with_held(board: Board, held: Held) -> Board
     ensures { result ≡ holding board held }
 {
     let panel = board.panel;
-    let scope = board.scope;
     Board {
         width: board.width,
         words: board.words,
         responses: board.responses,
         panel,
         held,
-        scope,
     }
 }
 

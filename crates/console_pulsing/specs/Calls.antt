@@ -1,5 +1,5 @@
 -- What the commands pulse, cells, resolve, tree, why, show, done and faulty do, in the words of docs/BOARD.md: each is one call of the library on
--- the board's machine, in the run of modules that is named, if any (`u`). `args` are the words after the command's name.
+-- the board's machine. `args` are the words after the command's name.
 use Rattle.std.specs.Prelude.{ℕ, List}
 use Rattle.laws.specs.Bits.{pick}
 use Rattle.machine.specs.declared.Panel.{Panel}
@@ -8,14 +8,16 @@ use Rattle.machine.specs.declared.ResponseBit.{ResponseBit}
 use Rattle.machine.specs.declared.Answer.{Answer}
 use Rattle.machine.specs.declared.Answer.TheVariants as answer
 use Rattle.machine.specs.Machine.{Machine}
+use Rattle.machine.specs.Refusals.{answer_of, after}
+use Rattle.explainer.specs.Reasons.{explained}
 use Rattle.resolver.specs.declared.Resolved.{Resolved}
 use Rattle.resolver.specs.declared.Resolved.TheVariants as resolved
+use Rattle.resolver.specs.Answers.{resolution}
 use Rattle.rounds.specs.declared.Verdict.{Verdict}
 use Rattle.rounds.specs.declared.Reply.{Reply}
 use Rattle.rounds.specs.declared.Reply.TheVariants as reply
+use Rattle.rounds.specs.Round.{show_of, reply_of, after_answer}
 use Rattle.text.specs.Rows.{fits, values, number_at, byte_at}
-use Rattle.console_runs.specs.declared.Scope.{Scope}
-use Rattle.console_runs.specs.Scopes.{answer_for, after_for, explained_for, resolution_for, show_for, reply_for, after_answer_for}
 use Rattle.console_commands.specs.declared.Outcome.{Outcome}
 use Rattle.console_commands.specs.declared.Outcome.TheVariants as outcome
 use Rattle.console_pulsing.specs.declared.Named.{Named}
@@ -29,13 +31,13 @@ told (answer.Done count read) = outcome.Pulsed count read
 told (answer.Refused why) = outcome.Refused why
 
 -- "pulse L..: one pulse"; "cells L..: the same pulse on the plain machine"
-abbrev pub pulse_outcome : Scope → Named → Machine → Panel → Outcome
-pulse_outcome u (Are lines) m p = told (answer_for u m p lines)
-pulse_outcome u Bad m p = outcome.BadLine
+abbrev pub pulse_outcome : Named → Machine → Panel → Outcome
+pulse_outcome (Are lines) m p = told (answer_of m p lines)
+pulse_outcome Bad m p = outcome.BadLine
 
-abbrev pub pulse_after : Scope → Named → Machine → Panel → Machine
-pulse_after u (Are lines) m p = after_for u m p lines
-pulse_after u Bad m p = m
+abbrev pub pulse_after : Named → Machine → Panel → Machine
+pulse_after (Are lines) m p = after m p lines
+pulse_after Bad m p = m
 
 -- ---- resolve, tree, why and show
 
@@ -46,20 +48,20 @@ found resolved.Nothing = outcome.NoWord
 found (resolved.Refused why) = outcome.Refused why
 
 -- "resolve: resolution under the panel's key and care"; "tree: the same, by the network"
-abbrev pub resolve_outcome : Scope → List (List ℕ) → Machine → Panel → Outcome
-resolve_outcome u args m p = pick (fits "" args) (found (resolution_for u p.key p.care m)) outcome.BadLine
+abbrev pub resolve_outcome : List (List ℕ) → Machine → Panel → Outcome
+resolve_outcome args m p = pick (fits "" args) (found (resolution p.key p.care m)) outcome.BadLine
 
 -- "why I: why word I (below 2^64) is or is not picked by a search under the panel"
-abbrev pub why_outcome : Scope → List (List ℕ) → Machine → Panel → Outcome
-why_outcome u args m p = pick (fits "a" args) (outcome.Why (explained_for u m p (record { 0 = number_at (values "a" args) 0 }))) outcome.BadLine
+abbrev pub why_outcome : List (List ℕ) → Machine → Panel → Outcome
+why_outcome args m p = pick (fits "a" args) (outcome.Why (explained m p (record { 0 = number_at (values "a" args) 0 }))) outcome.BadLine
 
 -- number k of a row, as a response bit's
 abbrev pub bit_in : List ℕ → ℕ → ResponseBit
 bit_in row k = record { 0 = byte_at row k }
 
 -- "show X: the round's next word; X 0 to 255"
-abbrev pub show_outcome : Scope → List (List ℕ) → Machine → Outcome
-show_outcome u args m = pick (fits "b" args) (found (show_for u (bit_in (values "b" args) 0) m)) outcome.BadLine
+abbrev pub show_outcome : List (List ℕ) → Machine → Outcome
+show_outcome args m = pick (fits "b" args) (found (show_of (bit_in (values "b" args) 0) m)) outcome.BadLine
 
 -- ---- done and faulty
 
@@ -72,12 +74,12 @@ replied (reply.Refused why) = outcome.Refused why
 abbrev pub word_in : List ℕ → WordSlice
 word_in row = record { 0 = number_at row 2 }
 
-abbrev pub answer_outcome : Scope → List (List ℕ) → Machine → Outcome
-answer_outcome u args m =
+abbrev pub answer_outcome : List (List ℕ) → Machine → Outcome
+answer_outcome args m =
     let row = values "bba" args in
-    pick (fits "bba" args) (replied (reply_for u (bit_in row 0) (bit_in row 1) (word_in row) m)) outcome.BadLine
+    pick (fits "bba" args) (replied (reply_of (bit_in row 0) (bit_in row 1) (word_in row) m)) outcome.BadLine
 
-abbrev pub answer_after : Scope → List (List ℕ) → Verdict → Machine → Machine
-answer_after u args verdict m =
+abbrev pub answer_after : List (List ℕ) → Verdict → Machine → Machine
+answer_after args verdict m =
     let row = values "bba" args in
-    pick (fits "bba" args) (after_answer_for u (bit_in row 0) (bit_in row 1) (word_in row) verdict m) m
+    pick (fits "bba" args) (after_answer (bit_in row 0) (bit_in row 1) (word_in row) verdict m) m

@@ -1,6 +1,6 @@
 // The commands that give the machine one pulse, ask it for a word or about one, or answer for one: pulses on both machines, resolution by the
-// scan and by the network, the explainer, and the hand-out round, each in the run of modules that the board names, if any. Document 01: 'One pulse',
-// 'The hand-out round'; document 02, requests e and f; docs/BOARD.md has the language.
+// scan and by the network, the explainer, and the hand-out round. Document 01: 'One pulse', 'The hand-out round'; document 02, request e;
+// docs/BOARD.md has the language.
 ghost use Rattle.std.specs.Prelude.{◌≡◌, ◌%◌};
 ghost use Rattle.machine.specs.Machine.{machine};
 ghost use Rattle.text.specs.Words.{words_of};
@@ -100,32 +100,30 @@ fn pulsed(answer: Answer) -> Outcome
 
 // pulse L..
 pub fn pulse(board: Board, rest: &[u8], words: &mut [u64], responses: &mut [Response]) -> Outcome
-    ensures value { result ≡ calls.pulse_outcome board.scope (naming.lines_of (words_of rest.now)) (machine board.width words.old responses.old) board.panel }
-    ensures words_after { words.new ≡ (calls.pulse_after board.scope (naming.lines_of (words_of rest.now)) (machine board.width words.old responses.old) board.panel).words }
-    ensures responses_after { responses.new ≡ (calls.pulse_after board.scope (naming.lines_of (words_of rest.now)) (machine board.width words.old responses.old) board.panel).responses }
+    ensures value { result ≡ calls.pulse_outcome (naming.lines_of (words_of rest.now)) (machine board.width words.old responses.old) board.panel }
+    ensures words_after { words.new ≡ (calls.pulse_after (naming.lines_of (words_of rest.now)) (machine board.width words.old responses.old) board.panel).words }
+    ensures responses_after { responses.new ≡ (calls.pulse_after (naming.lines_of (words_of rest.now)) (machine board.width words.old responses.old) board.panel).responses }
 {
     let named = read_lines(rest);
     let Named::Are(lines) = named else {
         return Outcome::BadLine;
     };
     let panel = board.panel;
-    let scope = board.scope;
-    pulsed(console_runs::wide_pulse(words, responses, board.width, panel, lines, scope))
+    pulsed(wide::pulse(words, responses, board.width, panel, lines))
 }
 
 // cells L..
 pub fn cells(board: Board, rest: &[u8], words: &mut [u64], responses: &mut [Response]) -> Outcome
-    ensures value { result ≡ calls.pulse_outcome board.scope (naming.lines_of (words_of rest.now)) (machine board.width words.old responses.old) board.panel }
-    ensures words_after { words.new ≡ (calls.pulse_after board.scope (naming.lines_of (words_of rest.now)) (machine board.width words.old responses.old) board.panel).words }
-    ensures responses_after { responses.new ≡ (calls.pulse_after board.scope (naming.lines_of (words_of rest.now)) (machine board.width words.old responses.old) board.panel).responses }
+    ensures value { result ≡ calls.pulse_outcome (naming.lines_of (words_of rest.now)) (machine board.width words.old responses.old) board.panel }
+    ensures words_after { words.new ≡ (calls.pulse_after (naming.lines_of (words_of rest.now)) (machine board.width words.old responses.old) board.panel).words }
+    ensures responses_after { responses.new ≡ (calls.pulse_after (naming.lines_of (words_of rest.now)) (machine board.width words.old responses.old) board.panel).responses }
 {
     let named = read_lines(rest);
     let Named::Are(lines) = named else {
         return Outcome::BadLine;
     };
     let panel = board.panel;
-    let scope = board.scope;
-    pulsed(console_runs::plain_pulse(words, responses, board.width, panel, lines, scope))
+    pulsed(cells::pulse(words, responses, board.width, panel, lines))
 }
 
 fn resolved(found: Resolved) -> Outcome
@@ -140,31 +138,29 @@ fn resolved(found: Resolved) -> Outcome
 
 // resolve
 pub fn resolve(board: Board, rest: &[u8], words: &[u64], responses: &[Response]) -> Outcome
-    ensures { result ≡ calls.resolve_outcome board.scope (words_of rest.now) (machine board.width words.now responses.now) board.panel }
+    ensures { result ≡ calls.resolve_outcome (words_of rest.now) (machine board.width words.now responses.now) board.panel }
 {
     if !arguments::none(rest) {
         return Outcome::BadLine;
     }
     let panel = board.panel;
-    let scope = board.scope;
-    resolved(console_runs::scan(words, responses, board.width, panel.key, panel.care, scope))
+    resolved(resolver::scan(words, responses, board.width, panel.key, panel.care))
 }
 
 // tree
 pub fn tree(board: Board, rest: &[u8], words: &[u64], responses: &[Response]) -> Outcome
-    ensures { result ≡ calls.resolve_outcome board.scope (words_of rest.now) (machine board.width words.now responses.now) board.panel }
+    ensures { result ≡ calls.resolve_outcome (words_of rest.now) (machine board.width words.now responses.now) board.panel }
 {
     if !arguments::none(rest) {
         return Outcome::BadLine;
     }
     let panel = board.panel;
-    let scope = board.scope;
-    resolved(console_runs::network(words, responses, board.width, panel.key, panel.care, scope))
+    resolved(resolver::network(words, responses, board.width, panel.key, panel.care))
 }
 
 // why I
 pub fn why(board: Board, rest: &[u8], words: &[u64], responses: &[Response]) -> Outcome
-    ensures { result ≡ calls.why_outcome board.scope (words_of rest.now) (machine board.width words.now responses.now) board.panel }
+    ensures { result ≡ calls.why_outcome (words_of rest.now) (machine board.width words.now responses.now) board.panel }
 {
     let row = arguments::read(rest, b"a");
     if !row.right {
@@ -172,8 +168,7 @@ pub fn why(board: Board, rest: &[u8], words: &[u64], responses: &[Response]) -> 
     }
     let word = WordSlice(row.values[0] as usize);
     let panel = board.panel;
-    let scope = board.scope;
-    Outcome::Why(console_runs::explain(words, responses, board.width, panel, word, scope))
+    Outcome::Why(explainer::explain(words, responses, board.width, panel, word))
 }
 
 fn response_bit(x: u64) -> ResponseBit
@@ -184,15 +179,14 @@ fn response_bit(x: u64) -> ResponseBit
 
 // show X
 pub fn show(board: Board, rest: &[u8], words: &[u64], responses: &[Response]) -> Outcome
-    ensures { result ≡ calls.show_outcome board.scope (words_of rest.now) (machine board.width words.now responses.now) }
+    ensures { result ≡ calls.show_outcome (words_of rest.now) (machine board.width words.now responses.now) }
 {
     let row = arguments::read(rest, b"b");
     if !row.right {
         return Outcome::BadLine;
     }
     let x = response_bit(row.values[0]);
-    let scope = board.scope;
-    resolved(console_runs::show(words, responses, board.width, x, scope))
+    resolved(rounds::show(words, responses, board.width, x))
 }
 
 fn replied(reply: Reply) -> Outcome
@@ -211,8 +205,8 @@ fn answer(
     responses: &mut [Response],
     verdict: Verdict,
 ) -> Outcome
-    ensures value { result ≡ calls.answer_outcome board.scope (words_of rest.now) (machine board.width words.now responses.old) }
-    ensures responses_after { responses.new ≡ (calls.answer_after board.scope (words_of rest.now) verdict (machine board.width words.now responses.old)).responses }
+    ensures value { result ≡ calls.answer_outcome (words_of rest.now) (machine board.width words.now responses.old) }
+    ensures responses_after { responses.new ≡ (calls.answer_after (words_of rest.now) verdict (machine board.width words.now responses.old)).responses }
 {
     let row = arguments::read(rest, b"bba");
     if !row.right {
@@ -221,22 +215,21 @@ fn answer(
     let x = response_bit(row.values[0]);
     let f = response_bit(row.values[1]);
     let word = WordSlice(row.values[2] as usize);
-    let scope = board.scope;
-    replied(console_runs::answer(words, responses, board.width, x, f, word, verdict, scope))
+    replied(rounds::answer(words, responses, board.width, x, f, word, verdict))
 }
 
 // done X F I
 pub fn done(board: Board, rest: &[u8], words: &[u64], responses: &mut [Response]) -> Outcome
-    ensures value { result ≡ calls.answer_outcome board.scope (words_of rest.now) (machine board.width words.now responses.old) }
-    ensures responses_after { responses.new ≡ (calls.answer_after board.scope (words_of rest.now) Verdict.Done (machine board.width words.now responses.old)).responses }
+    ensures value { result ≡ calls.answer_outcome (words_of rest.now) (machine board.width words.now responses.old) }
+    ensures responses_after { responses.new ≡ (calls.answer_after (words_of rest.now) Verdict.Done (machine board.width words.now responses.old)).responses }
 {
     answer(board, rest, words, responses, Verdict::Done)
 }
 
 // faulty X F I
 pub fn faulty(board: Board, rest: &[u8], words: &[u64], responses: &mut [Response]) -> Outcome
-    ensures value { result ≡ calls.answer_outcome board.scope (words_of rest.now) (machine board.width words.now responses.old) }
-    ensures responses_after { responses.new ≡ (calls.answer_after board.scope (words_of rest.now) Verdict.Faulty (machine board.width words.now responses.old)).responses }
+    ensures value { result ≡ calls.answer_outcome (words_of rest.now) (machine board.width words.now responses.old) }
+    ensures responses_after { responses.new ≡ (calls.answer_after (words_of rest.now) Verdict.Faulty (machine board.width words.now responses.old)).responses }
 {
     answer(board, rest, words, responses, Verdict::Faulty)
 }

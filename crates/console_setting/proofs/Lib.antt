@@ -4,4 +4,3 @@ pub mod Buffers
 pub mod Letters
 pub mod Lines
 pub mod Loads
-pub mod Naming

@@ -40,10 +40,10 @@ loaded_one b name args = refl
 -- ---- the name and what follows it
 
 -- the rest of a line from a place on, as code cuts it out
-abbrev pub after : List ℕ → ℕ → List ℕ
+abbrev after : List ℕ → ℕ → List ℕ
 after line at = take (length line - at) (drop at line)
 
-pub after_is : (line : List ℕ) (at : ℕ) → after line at ≡ drop at line
+after_is : (line : List ℕ) (at : ℕ) → after line at ≡ drop at line
 after_is line at = take_all (length line - at) (drop at line) (omega (arith, length-drop at line))
 
 module _ (line : List ℕ) (b : Board) (p : Place) (is : p ≡ word_at line 0) (k : ℕ)

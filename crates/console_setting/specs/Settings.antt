@@ -1,18 +1,15 @@
--- What the commands machine, lend, word, response, load, panel, job, drop and modules do, in the words of docs/BOARD.md.
+-- What the commands machine, lend, word, response, load, panel, job and drop do, in the words of docs/BOARD.md.
 -- `args` are the words after the command's name.
-use Rattle.std.specs.Prelude.{ℕ, Bool, false, ◌&&◌, List, [], ◌∷◌, ltb, eqb, length, replicate, get_or, set}
+use Rattle.std.specs.Prelude.{ℕ, Bool, ◌&&◌, List, [], ◌∷◌, ltb, eqb, length, replicate, get_or, set}
 use Prim.Native.String.{String}
 use Rattle.laws.specs.Bits.{pick}
 use Rattle.machine.specs.declared.Panel.{Panel}
 use Rattle.machine.specs.Panel.{panel_of, load}
 use Rattle.job_plans.specs.declared.Job.{Job}
 use Rattle.job_plans.specs.declared.Held.TheVariants.{Nothing, Holds}
-use Rattle.modules.specs.declared.Run.{Run}
 use Rattle.text.specs.Ascii.{ascii}
 use Rattle.text.specs.Words.{words_of, place_of}
 use Rattle.text.specs.Rows.{fits, values, number_at, byte_at}
-use Rattle.console_runs.specs.declared.Scope.{Scope}
-use Rattle.console_runs.specs.declared.Scope.TheVariants.{All, Of}
 use Rattle.console_commands.specs.declared.Board.{Board}
 use Rattle.console_commands.specs.declared.Turn.{Turn}
 use Rattle.console_commands.specs.declared.Outcome.{Outcome}
@@ -32,7 +29,7 @@ abbrev pub made : Board → List (List ℕ) → Turn
 made b args = let row = values "bn" args in pick (fits "bn" args) (fine (fresh_board (byte_at row 0) (number_at row 1))) (bad_line b)
 
 abbrev pub with_responses : Board → ℕ → Board
-with_responses b m = record { width = b.width; words = b.words; responses = m; panel = b.panel; held = b.held; scope = b.scope }
+with_responses b m = record { width = b.width; words = b.words; responses = m; panel = b.panel; held = b.held }
 
 -- "lend m: a response buffer of m entries (0 to 2048), all 0"
 abbrev pub lent : Board → List (List ℕ) → Turn
@@ -57,7 +54,7 @@ response_written args responses =
 -- ---- the panel
 
 abbrev pub with_panel : Board → Panel → Board
-with_panel b p = record { width = b.width; words = b.words; responses = b.responses; panel = p; held = b.held; scope = b.scope }
+with_panel b p = record { width = b.width; words = b.words; responses = b.responses; panel = p; held = b.held }
 
 -- the registers' names in the order of their numbers
 abbrev pub register_names : List (List ℕ)
@@ -114,26 +111,3 @@ job_written b args =
 -- "drop: the host drops the held job"
 abbrev pub dropped : Board → List (List ℕ) → Turn
 dropped b args = pick (fits "" args) (fine (holding b Nothing)) (bad_line b)
-
--- ---- the run of modules that other commands name
-
-abbrev pub with_scope : Board → Scope → Board
-with_scope b u =
-    record { width = b.width; words = b.words; responses = b.responses; panel = b.panel; held = b.held; scope = u }
-
--- the word `all` and no other
-abbrev pub all_name : List (List ℕ)
-all_name = words_of (ascii "all")
-
-unfoldable pub is_all : List (List ℕ) → Bool
-is_all [] = false
-is_all (name ∷ args) = eqb (place_of name all_name) 0 && fits "" args
-
--- "each number below 2^64"
-abbrev pub run_in : List ℕ → Run
-run_in row = record { first = number_at row 0; count = number_at row 1 }
-
--- 02 f: "modules FIRST COUNT: the run that" other commands "then name"; "modules all: no run is named any more"
-abbrev pub run_named : Board → List (List ℕ) → Turn
-run_named b args =
-    pick (is_all args) (fine (with_scope b All)) (pick (fits "aa" args) (fine (with_scope b (Of (run_in (values "aa" args))))) (bad_line b))

@@ -1,15 +1,13 @@
 // The commands by which the host sets its machine up by itself, with no call of the library but the panel's loads: it makes its
-// buffers and writes them, and says which run of modules its commands name, unchecked, so that every refusal can be seen. docs/BOARD.md has the language.
+// buffers and writes them, unchecked, so that every refusal can be seen. docs/BOARD.md has the language.
 ghost use Rattle.std.specs.Prelude.{◌≡◌, true, length, replicate};
 ghost use Rattle.text.specs.Words.{words_of};
 ghost use Rattle.text.specs.Rows.{fits, values};
 ghost use Rattle.console_setting.specs.Settings as settings;
 
 use console_commands::{Board, Outcome, Turn, bad_line, fine, fresh, with_held};
-use console_runs::Scope;
 use job_plans::Held;
 use machine::Response;
-use modules::Run;
 use text::{Row, arguments, numbers};
 
 fn clear_words(words: &mut [u64])
@@ -175,50 +173,4 @@ pub fn drop_job(board: Board, rest: &[u8]) -> Turn
         return bad_line(board);
     }
     fine(with_held(board, Held::Nothing))
-}
-
-fn with_scope(board: Board, scope: Scope) -> Board
-    ensures { result ≡ settings.with_scope board scope }
-{
-    let panel = board.panel;
-    let held = board.held;
-    Board {
-        width: board.width,
-        words: board.words,
-        responses: board.responses,
-        panel,
-        held,
-        scope,
-    }
-}
-
-// The word `all` and no other.
-fn is_all(rest: &[u8]) -> bool
-    ensures { result ≡ settings.is_all (words_of rest.now) }
-{
-    let word = text::words::next(rest, 0);
-    let from = word.from;
-    let to = word.to;
-    let end = rest.len();
-    let name = text::words::which(b"all", &rest[from..to]);
-    let alone = arguments::none(&rest[to..end]);
-    (name == 0) & alone
-}
-
-// modules FIRST COUNT, modules all. A run of any two numbers is named here: the commands that name it are refused with 13.
-pub fn name_run(board: Board, rest: &[u8]) -> Turn
-    ensures { result ≡ settings.run_named board (words_of rest.now) }
-{
-    if is_all(rest) {
-        return fine(with_scope(board, Scope::All));
-    }
-    let row = arguments::read(rest, b"aa");
-    if !row.right {
-        return bad_line(board);
-    }
-    let run = Run {
-        first: row.values[0] as usize,
-        count: row.values[1] as usize,
-    };
-    fine(with_scope(board, Scope::Of(run)))
 }

@@ -22,7 +22,7 @@ use Rattle.console_storing.proofs.Digits.{image_holds}
 
 module _ (b : Board) (found : Read) where
   pub machine_taken : (width n : ℕ) (held : Held) → found ≡ read.Machine width n held → (t : Turn) →
-      t ≡ fine (record { width = width; words = n; responses = n; panel = b.panel; held = held; scope = b.scope }) → t ≡ taken b found
+      t ≡ fine (record { width = width; words = n; responses = n; panel = b.panel; held = held }) → t ≡ taken b found
   machine_taken width n held e t f = rw e f
 
   pub refusal_taken : (why : Refusal) → found ≡ read.Refused why → (t : Turn) → t ≡ refused b why → t ≡ taken b found

@@ -68,9 +68,9 @@ kept [] bytes = bytes
 kept (word ∷ []) bytes = sets bytes 0 (take (length bytes) (pairs word))
 kept (word ∷ (next ∷ more)) bytes = bytes
 
--- "the machine is then the one read, the panel stays"; "`resume` and `fit` leave the run as it is"
+-- "the machine is then the one read, the panel stays"
 abbrev pub taken : Board → Read → Turn
-taken b (read.Machine width n held) = fine (record { width = width; words = n; responses = n; panel = b.panel; held = held; scope = b.scope })
+taken b (read.Machine width n held) = fine (record { width = width; words = n; responses = n; panel = b.panel; held = held })
 taken b (read.Refused why) = refused b why
 
 -- destinations of w words and r responses, which the console's buffers have

@@ -104,7 +104,7 @@ fn read_digits(rest: &[u8], at: usize, bytes: &mut [u8]) -> Number
     numbers::bytes(&rest[from..to], bytes)
 }
 
-// "on success the machine is the one read"; "the panel stays", and so does the run.
+// "on success the machine is the one read"; "the panel stays".
 fn taken(board: Board, found: Read) -> Turn
     ensures { result ≡ images.taken board found }
 {
@@ -115,14 +115,12 @@ fn taken(board: Board, found: Read) -> Turn
             held,
         } => {
             let panel = board.panel;
-            let scope = board.scope;
             fine(Board {
                 width,
                 words: n,
                 responses: n,
                 panel,
                 held,
-                scope,
             })
         }
         Read::Refused(why) => refused(board, why),

@@ -10,15 +10,15 @@ use Rattle.job_plans.specs.declared.Held.{Held}
 use Rattle.job_plans.specs.declared.Held.TheVariants.{Holds}
 use Rattle.job_tally.specs.declared.Total.{Total}
 use Rattle.job_tally.specs.declared.Total.TheVariants as total
+use Rattle.job_tally.specs.Totals.{total_of}
 use Rattle.jobs.specs.declared.Started.{Started}
 use Rattle.jobs.specs.declared.Started.TheVariants as started
 use Rattle.jobs.specs.declared.Stepped.{Stepped}
 use Rattle.jobs.specs.declared.Stepped.TheVariants as stepped
-use Rattle.jobs.specs.Calls.{is_held, start_of}
+use Rattle.jobs.specs.Calls.{is_held, start_of, step_of, after_step}
+use Rattle.jobs.specs.Runs as runs
 use Rattle.jobs.specs.Runs.{State}
 use Rattle.text.specs.Rows.{fits, values, number_at}
-use Rattle.console_runs.specs.declared.Scope.{Scope}
-use Rattle.console_runs.specs.Scopes.{step_for, after_step_for, stepped_for, total_for}
 use Rattle.console_commands.specs.declared.Board.{Board}
 use Rattle.console_commands.specs.declared.Turn.{Turn}
 use Rattle.console_commands.specs.declared.Outcome.TheVariants as outcome
@@ -75,30 +75,30 @@ module _ (b : Board) (args : List (List ℕ)) (s : State) (right : Bool) (is : r
 
 -- ---- total
 
-module _ (u : Scope) (args : List (List ℕ)) (s : State) (right : Bool) (is : right ≡ fits "" args) where
-  pub total_bad : right ≡ false → outcome.BadLine ≡ total_outcome u args s
+module _ (args : List (List ℕ)) (s : State) (right : Bool) (is : right ≡ fits "" args) where
+  pub total_bad : right ≡ false → outcome.BadLine ≡ total_outcome args s
   total_bad e = rw (← is, e)
 
-  module _ (e : right ≡ true) (a : Total) (told : a ≡ total_for u s.machine s.held) where
-    pub total_pulses : (k : ℕ) → a ≡ total.Pulses k → outcome.Pulses k ≡ total_outcome u args s
+  module _ (e : right ≡ true) (a : Total) (told : a ≡ total_of s.machine s.held) where
+    pub total_pulses : (k : ℕ) → a ≡ total.Pulses k → outcome.Pulses k ≡ total_outcome args s
     total_pulses k d = rw (← is, e, ← told, d)
 
-    pub total_refused : (why : Refusal) → a ≡ total.Refused why → outcome.Refused why ≡ total_outcome u args s
+    pub total_refused : (why : Refusal) → a ≡ total.Refused why → outcome.Refused why ≡ total_outcome args s
     total_refused why d = rw (← is, e, ← told, d)
 
 -- ---- step
 
 module _ (b : Board) (args : List (List ℕ)) (s : State) (right : Bool) (is : right ≡ fits "" args) where
   abbrev StepIs : Turn → List ℕ → List ℕ → Type 0
-  StepIs r ws rs = (r ≡ step_turn b args s) × ((ws ≡ (step_after b.scope args s).machine.words) × (rs ≡ (step_after b.scope args s).machine.responses))
+  StepIs r ws rs = (r ≡ step_turn b args s) × ((ws ≡ (step_after args s).machine.words) × (rs ≡ (step_after args s).machine.responses))
 
   pub step_bad : right ≡ false → (r : Turn) → r ≡ bad_line b → StepIs r s.machine.words s.machine.responses
   step_bad e r f = rw (← is, e) (f, (refl, refl))
 
-  module _ (e : right ≡ true) (a : Stepped) (told : a ≡ step_for b.scope s.machine s.held) (ws rs : List ℕ)
-      (we : ws ≡ (after_step_for b.scope s.machine s.held).words) (re : rs ≡ (after_step_for b.scope s.machine s.held).responses) where
+  module _ (e : right ≡ true) (a : Stepped) (told : a ≡ step_of s.machine s.held) (ws rs : List ℕ)
+      (we : ws ≡ (after_step s.machine s.held).words) (re : rs ≡ (after_step s.machine s.held).responses) where
     after : (r : Turn) → r ≡ given b a → StepIs r ws rs
-    unfolding stepped_for
+    unfolding runs.stepped
     after r f = rw (← is, e) (f ∙ ap (given b) told, (we, re))
 
     pub step_gave : (k : Command) (n : ℕ) (h : Held) → a ≡ stepped.Gave k n h → (b' : Board) → b' ≡ holding b h → (on : Bool) → on ≡ is_held h

@@ -1,20 +1,20 @@
--- What the commands start, step, run and total do, in the words of docs/BOARD.md, on the board's machine and the job it holds (`state`). All but
--- start name the board's run of modules, if any: its scope, or `u`. `args` are the words after the command's name.
+-- What the commands start, step, run and total do, in the words of docs/BOARD.md, on the board's machine and the job it holds (`state`).
+-- `args` are the words after the command's name.
 use Rattle.std.specs.Prelude.{ℕ, zero, suc, ◌-◌, ◌^◌, List}
 use Rattle.laws.specs.Bits.{pick}
 use Rattle.job_plans.specs.declared.Job.{Job}
 use Rattle.job_plans.specs.declared.Held.TheVariants.{Holds}
 use Rattle.job_tally.specs.declared.Total.{Total}
 use Rattle.job_tally.specs.declared.Total.TheVariants as total
+use Rattle.job_tally.specs.Totals.{total_of}
 use Rattle.jobs.specs.declared.Started.{Started}
 use Rattle.jobs.specs.declared.Started.TheVariants as started
 use Rattle.jobs.specs.declared.Stepped.{Stepped}
 use Rattle.jobs.specs.declared.Stepped.TheVariants as stepped
-use Rattle.jobs.specs.Calls.{is_held, start_of}
-use Rattle.jobs.specs.Runs.{State}
+use Rattle.jobs.specs.Calls.{is_held, start_of, step_of}
+use Rattle.jobs.specs.Runs as runs
+use Rattle.jobs.specs.Runs.{State, steps}
 use Rattle.text.specs.Rows.{fits, values, number_at}
-use Rattle.console_runs.specs.declared.Scope.{Scope}
-use Rattle.console_runs.specs.Scopes.{step_for, total_for, stepped_for, steps_for}
 use Rattle.console_commands.specs.declared.Board.{Board}
 use Rattle.console_commands.specs.declared.Turn.{Turn}
 use Rattle.console_commands.specs.declared.Outcome.{Outcome}
@@ -64,10 +64,10 @@ given b (stepped.Refused why) = refused b why
 
 -- "step: one job step"
 abbrev pub step_turn : Board → List (List ℕ) → State → Turn
-step_turn b args s = pick (fits "" args) (given b (step_for b.scope s.machine s.held)) (bad_line b)
+step_turn b args s = pick (fits "" args) (given b (step_of s.machine s.held)) (bad_line b)
 
-abbrev pub step_after : Scope → List (List ℕ) → State → State
-step_after u args s = pick (fits "" args) (stepped_for u s) s
+abbrev pub step_after : List (List ℕ) → State → State
+step_after args s = pick (fits "" args) (runs.stepped s) s
 
 -- ---- run
 
@@ -76,26 +76,25 @@ one_more (stepped.Gave command count held) k = suc k
 one_more (stepped.Refused why) k = 0
 
 -- "steps until no job is held or a step is refused": how many are accepted, of at most `most`; a step without a job is refused
-unfoldable pub accepted : Scope → ℕ → State → ℕ
-accepted u zero s = 0
-accepted u (suc most) s = one_more (step_for u s.machine s.held) (accepted u most (stepped_for u s))
+unfoldable pub accepted : ℕ → State → ℕ
+accepted zero s = 0
+accepted (suc most) s = one_more (step_of s.machine s.held) (accepted most (runs.stepped s))
 
 -- every job ends long before; a run counts its steps below 2^64
 abbrev pub most : ℕ
 most = 2 ^ 64 - 1
 
-abbrev pub run_after : Scope → List (List ℕ) → State → State
-run_after u args s = pick (fits "" args) (steps_for u (accepted u most s) s) s
+abbrev pub run_after : List (List ℕ) → State → State
+run_after args s = pick (fits "" args) (steps (accepted most s) s) s
 
 -- "pulses K, K the steps accepted; a refusal of the first step, also for want of a job, prints as a refusal"
 abbrev pub ran : Board → Stepped → State → Turn
 ran b (stepped.Gave command count held) s =
-    let k = accepted b.scope most s in
-    record { board = holding b (steps_for b.scope k s).held; outcome = outcome.Pulses k }
+    record { board = holding b (steps (accepted most s) s).held; outcome = outcome.Pulses (accepted most s) }
 ran b (stepped.Refused why) s = refused b why
 
 abbrev pub run_turn : Board → List (List ℕ) → State → Turn
-run_turn b args s = pick (fits "" args) (ran b (step_for b.scope s.machine s.held) s) (bad_line b)
+run_turn b args s = pick (fits "" args) (ran b (step_of s.machine s.held) s) (bad_line b)
 
 -- ---- total
 
@@ -104,5 +103,5 @@ counted (total.Pulses k) = outcome.Pulses k
 counted (total.Refused why) = outcome.Refused why
 
 -- "total: the pulses that the held job, just started, will take in all, worked out without running it"
-abbrev pub total_outcome : Scope → List (List ℕ) → State → Outcome
-total_outcome u args s = pick (fits "" args) (counted (total_for u s.machine s.held)) outcome.BadLine
+abbrev pub total_outcome : List (List ℕ) → State → Outcome
+total_outcome args s = pick (fits "" args) (counted (total_of s.machine s.held)) outcome.BadLine

@@ -1,15 +1,13 @@
-// The commands that work on the held job: started, stepped, run to the end, and counted beforehand, all but the start in the run of modules that the
-// board names, if any. Document 01: 'Jobs'; document 02, request f; docs/BOARD.md has the language.
+// The commands that work on the held job: started, stepped, run to the end, and counted beforehand. Document 01: 'Jobs';
+// docs/BOARD.md has the language.
 ghost use Rattle.std.specs.Prelude.{◌≡◌, suc, ◌-◌};
 ghost use Rattle.jobs.specs.Calls.{is_held};
-ghost use Rattle.jobs.specs.Runs.{state};
-ghost use Rattle.console_runs.specs.Scopes.{steps_for};
+ghost use Rattle.jobs.specs.Runs.{state, steps};
 ghost use Rattle.console_commands.specs.Boards.{holding};
 ghost use Rattle.text.specs.Words.{words_of};
 ghost use Rattle.console_working.specs.Jobs as jobs;
 
 use console_commands::{Board, Outcome, Turn, bad_line, fine, refused, with_held};
-use console_runs::Scope;
 use job_plans::Held;
 use job_tally::Total;
 use jobs::{Started, Stepped};
@@ -47,15 +45,14 @@ fn is_held(held: Held) -> bool
 // step
 pub fn step(board: Board, rest: &[u8], words: &mut [u64], responses: &mut [Response]) -> Turn
     ensures value { result ≡ jobs.step_turn board (words_of rest.now) (state board.width words.old responses.old board.held) }
-    ensures words_after { words.new ≡ (jobs.step_after board.scope (words_of rest.now) (state board.width words.old responses.old board.held)).machine.words }
-    ensures responses_after { responses.new ≡ (jobs.step_after board.scope (words_of rest.now) (state board.width words.old responses.old board.held)).machine.responses }
+    ensures words_after { words.new ≡ (jobs.step_after (words_of rest.now) (state board.width words.old responses.old board.held)).machine.words }
+    ensures responses_after { responses.new ≡ (jobs.step_after (words_of rest.now) (state board.width words.old responses.old board.held)).machine.responses }
 {
     if !arguments::none(rest) {
         return bad_line(board);
     }
     let held = board.held;
-    let scope = board.scope;
-    let stepped = console_runs::step(words, responses, board.width, held, scope);
+    let stepped = jobs::step(words, responses, board.width, held);
     match stepped {
         Stepped::Gave {
             command,
@@ -80,24 +77,23 @@ struct Progress {
     steps: u64,
 }
 
-// Steps, all in one scope, until one is refused, and one without a job is; at most so many. Every job ends, as `ends` proves, long before 2^64.
+// Steps until one is refused, and one without a job is; at most so many. Every job ends, as `ends` proves, long before 2^64.
 fn to_the_end(
     most: u64,
     first: Held,
-    scope: Scope,
     width: u32,
     words: &mut [u64],
     responses: &mut [Response],
 ) -> Progress
-    ensures steps_value { result.steps ≡ jobs.accepted scope most (state width words.old responses.old first) }
-    ensures held_value { result.held ≡ (steps_for scope (jobs.accepted scope most (state width words.old responses.old first)) (state width words.old responses.old first)).held }
-    ensures words_after { words.new ≡ (steps_for scope (jobs.accepted scope most (state width words.old responses.old first)) (state width words.old responses.old first)).machine.words }
-    ensures responses_after { responses.new ≡ (steps_for scope (jobs.accepted scope most (state width words.old responses.old first)) (state width words.old responses.old first)).machine.responses }
+    ensures steps_value { result.steps ≡ jobs.accepted most (state width words.old responses.old first) }
+    ensures held_value { result.held ≡ (steps (jobs.accepted most (state width words.old responses.old first)) (state width words.old responses.old first)).held }
+    ensures words_after { words.new ≡ (steps (jobs.accepted most (state width words.old responses.old first)) (state width words.old responses.old first)).machine.words }
+    ensures responses_after { responses.new ≡ (steps (jobs.accepted most (state width words.old responses.old first)) (state width words.old responses.old first)).machine.responses }
 {
     let mut held = first;
     let mut turns = most;
     while turns > 0 {
-        let stepped = console_runs::step(words, responses, width, held, scope);
+        let stepped = jobs::step(words, responses, width, held);
         let Stepped::Gave {
             command: _,
             count: _,
@@ -118,15 +114,14 @@ fn to_the_end(
 // run: "at least one step, then steps until no job is held or a step is refused"
 pub fn run(board: Board, rest: &[u8], words: &mut [u64], responses: &mut [Response]) -> Turn
     ensures value { result ≡ jobs.run_turn board (words_of rest.now) (state board.width words.old responses.old board.held) }
-    ensures words_after { words.new ≡ (jobs.run_after board.scope (words_of rest.now) (state board.width words.old responses.old board.held)).machine.words }
-    ensures responses_after { responses.new ≡ (jobs.run_after board.scope (words_of rest.now) (state board.width words.old responses.old board.held)).machine.responses }
+    ensures words_after { words.new ≡ (jobs.run_after (words_of rest.now) (state board.width words.old responses.old board.held)).machine.words }
+    ensures responses_after { responses.new ≡ (jobs.run_after (words_of rest.now) (state board.width words.old responses.old board.held)).machine.responses }
 {
     if !arguments::none(rest) {
         return bad_line(board);
     }
     let held = board.held;
-    let scope = board.scope;
-    let first = console_runs::step(words, responses, board.width, held, scope);
+    let first = jobs::step(words, responses, board.width, held);
     match first {
         Stepped::Gave {
             command: _,
@@ -139,13 +134,12 @@ pub fn run(board: Board, rest: &[u8], words: &mut [u64], responses: &mut [Respon
 
 // The steps of a run after its first.
 fn go_on(board: Board, held: Held, words: &mut [u64], responses: &mut [Response]) -> Turn
-    ensures outcome_value { result.outcome ≡ Outcome.Pulses (suc (jobs.accepted board.scope (jobs.most - 1) (state board.width words.old responses.old held))) }
-    ensures board_value { result.board ≡ holding board (steps_for board.scope (jobs.accepted board.scope (jobs.most - 1) (state board.width words.old responses.old held)) (state board.width words.old responses.old held)).held }
-    ensures words_after { words.new ≡ (steps_for board.scope (jobs.accepted board.scope (jobs.most - 1) (state board.width words.old responses.old held)) (state board.width words.old responses.old held)).machine.words }
-    ensures responses_after { responses.new ≡ (steps_for board.scope (jobs.accepted board.scope (jobs.most - 1) (state board.width words.old responses.old held)) (state board.width words.old responses.old held)).machine.responses }
+    ensures outcome_value { result.outcome ≡ Outcome.Pulses (suc (jobs.accepted (jobs.most - 1) (state board.width words.old responses.old held))) }
+    ensures board_value { result.board ≡ holding board (steps (jobs.accepted (jobs.most - 1) (state board.width words.old responses.old held)) (state board.width words.old responses.old held)).held }
+    ensures words_after { words.new ≡ (steps (jobs.accepted (jobs.most - 1) (state board.width words.old responses.old held)) (state board.width words.old responses.old held)).machine.words }
+    ensures responses_after { responses.new ≡ (steps (jobs.accepted (jobs.most - 1) (state board.width words.old responses.old held)) (state board.width words.old responses.old held)).machine.responses }
 {
-    let scope = board.scope;
-    let run = to_the_end(u64::MAX - 1, held, scope, board.width, words, responses);
+    let run = to_the_end(u64::MAX - 1, held, board.width, words, responses);
     let left = run.held;
     Turn {
         board: with_held(board, left),
@@ -155,14 +149,13 @@ fn go_on(board: Board, held: Held, words: &mut [u64], responses: &mut [Response]
 
 // total
 pub fn total(board: Board, rest: &[u8], words: &[u64], responses: &[Response]) -> Outcome
-    ensures { result ≡ jobs.total_outcome board.scope (words_of rest.now) (state board.width words.now responses.now board.held) }
+    ensures { result ≡ jobs.total_outcome (words_of rest.now) (state board.width words.now responses.now board.held) }
 {
     if !arguments::none(rest) {
         return Outcome::BadLine;
     }
     let held = board.held;
-    let scope = board.scope;
-    let total = console_runs::total(words, responses, board.width, held, scope);
+    let total = jobs::totals::total(words, responses, board.width, held);
     match total {
         Total::Pulses(pulses) => Outcome::Pulses(pulses),
         Total::Refused(why) => Outcome::Refused(why),

@@ -86,7 +86,7 @@ pub extern "C" fn dushvaneth_start(
 
 const STEP_SIZE: usize = 5 + PANEL_SIZE;
 
-pub fn check_step(job: &[u8], room: usize) -> Check
+fn check_step(job: &[u8], room: usize) -> Check
     ensures { result ≡ entries.step_own job.now room }
 {
     lower(check_held(job), check_room(STEP_SIZE, room))
@@ -117,7 +117,7 @@ fn tell_given(answer: &mut [u64], given: Command, count: usize, held: Held)
     tell(answer, &numbers);
 }
 
-pub fn tell_stepped(answer: &mut [u64], stepped: Stepped) -> u32
+fn tell_stepped(answer: &mut [u64], stepped: Stepped) -> u32
     ensures value { result ≡ (told_stepped stepped).refusal }
     ensures answer_after { answer.new ≡ tell_in (entries.step_numbers (told_stepped stepped)) answer.old }
 {
@@ -155,7 +155,7 @@ pub fn tell_stepped(answer: &mut [u64], stepped: Stepped) -> u32
 }
 
 // The record of what is held after an accepted step.
-pub fn keep_stepped(job: &mut [u8], stepped: Stepped)
+fn keep_stepped(job: &mut [u8], stepped: Stepped)
     ensures { job.new ≡ entries.stepped_in stepped job.old }
 {
     if let Stepped::Gave {
@@ -201,13 +201,13 @@ pub extern "C" fn dushvaneth_step(
 
 const TOTAL_SIZE: usize = 3;
 
-pub fn check_total(job: &[u8], room: usize) -> Check
+fn check_total(job: &[u8], room: usize) -> Check
     ensures { result ≡ entries.total_own job.now room }
 {
     lower(check_held(job), check_room(TOTAL_SIZE, room))
 }
 
-pub fn tell_total(answer: &mut [u64], total: Total) -> u32
+fn tell_total(answer: &mut [u64], total: Total) -> u32
     ensures value { result ≡ (totals.told total).refusal }
     ensures answer_after { answer.new ≡ tell_in (entries.total_numbers (totals.told total)) answer.old }
 {

@@ -133,14 +133,14 @@ pub record Keeps {A : Type 0} (number : ℕ) (before left now : A) : Type 0 wher
 -- of a call that answers `turned` of a refusal and `done` otherwise, by its check
 module _ {A : Type 0} (turned : Refusal → A) (done : A) (own call : Check) where
   -- what the entry answers, and what the call does
-  abbrev pub entry_says : A
+  abbrev entry_says : A
   entry_says = answer_by (lower own call) turned done
 
-  abbrev pub call_says : A
+  abbrev call_says : A
   call_says = answer_by call turned done
 
   -- an answer's number and what it also answers are those of its check
-  pub tell_given : (tell : A → ℕ × ℕ) → ((r : Refusal) → tell (turned r) ≡ tells r) → (call ≡ Passed → tell done ≡ (0, 0))
+  tell_given : (tell : A → ℕ × ℕ) → ((r : Refusal) → tell (turned r) ≡ tells r) → (call ≡ Passed → tell done ≡ (0, 0))
       → tell entry_says ≡ given (lower own call)
   tell_given tell e z = go (lower own call) refl
     where
@@ -151,7 +151,7 @@ module _ {A : Type 0} (turned : Refusal → A) (done : A) (own call : Check) whe
   same_answer : own ≡ Passed → entry_says ≡ call_says
   same_answer e = ap (λ (d : Check). answer_by (lower d call) turned done) e
 
-  pub enters_by : {T : Type 0} (tell : T → ℕ × ℕ) (told : A → T) → ((r : Refusal) → tell (told (turned r)) ≡ tells r)
+  enters_by : {T : Type 0} (tell : T → ℕ × ℕ) (told : A → T) → ((r : Refusal) → tell (told (turned r)) ≡ tells r)
       → (call ≡ Passed → tell (told done) ≡ (0, 0)) → (es fs : List Entry) → given own ≡ first es → given call ≡ first fs
       → (n : ℕ) → n ≡ (tell (told entry_says)).0 → Enters tell es fs call n (told entry_says) (told call_says)
   enters_by tell told e z es fs f g n k =
@@ -164,7 +164,7 @@ module _ {A : Type 0} (turned : Refusal → A) (done : A) (own call : Check) whe
       }
 
   -- what is left is a matter of the answer: `left` of a refusal is what was there before
-  pub keeps_by : {B : Type 0} (tell : A → ℕ × ℕ) → ((r : Refusal) → tell (turned r) ≡ tells r) → (call ≡ Passed → tell done ≡ (0, 0))
+  keeps_by : {B : Type 0} (tell : A → ℕ × ℕ) → ((r : Refusal) → tell (turned r) ≡ tells r) → (call ≡ Passed → tell done ≡ (0, 0))
       → (left : A → B) (before : B) → ((r : Refusal) → left (turned r) ≡ before)
       → (n : ℕ) → n ≡ (tell entry_says).0 → (now : B) → now ≡ left entry_says → Keeps n before (left call_says) now
   keeps_by tell e z left before k n h now g =
@@ -179,7 +179,7 @@ module _ {A : Type 0} (turned : Refusal → A) (done : A) (own call : Check) whe
       go (Refused r) y = k r
 
 -- the same law of what changes by a check: `part` of it
-pub kept_by : {A B : Type 0} (own call : Check) (part : A → B) (new old : A) (n : ℕ) → n ≡ (given (lower own call)).0
+kept_by : {A B : Type 0} (own call : Check) (part : A → B) (new old : A) (n : ℕ) → n ≡ (given (lower own call)).0
     → (now : B) → now ≡ part (change_by (lower own call) new old) → Keeps n (part old) (part (change_by call new old)) now
 kept_by own call part new old n h now g =
     record {
@@ -223,7 +223,7 @@ load_enters κs a r s h =
 
 -- ---- both pulses
 
-abbrev pub tells_pulse : Told → ℕ × ℕ
+abbrev tells_pulse : Told → ℕ × ℕ
 tells_pulse t = (t.refusal, t.also)
 
 -- an outcome: the number returned, the answer's buffer, words and responses afterwards
@@ -281,7 +281,7 @@ plain_pulse_enters κs a r s h =
 
 -- ---- the explainer
 
-abbrev pub tells_explained : reasons.Told → ℕ × ℕ
+abbrev tells_explained : reasons.Told → ℕ × ℕ
 tells_explained t = (t.refusal, t.also)
 
 pub explain_enters : (κs : Lfts 4) (a : ArgsD explain.signature κs) (r : ResD explain.signature κs) (s : AtExit (ended_of 4 explain-kinds.ps explain-kinds.r) κs)
@@ -323,7 +323,7 @@ explain_entry_true κs a r s h z =
 
 -- ---- resolution and show
 
-abbrev pub tells_resolved : resolving.Told → ℕ × ℕ
+abbrev tells_resolved : resolving.Told → ℕ × ℕ
 tells_resolved t = (t.refusal, t.also)
 
 abbrev pub Resolution : ℕ → ℕ → Machine → List ℕ → ℕ → List ℕ → Type 0
@@ -333,7 +333,7 @@ Resolution key care m answer number answer' =
     Enters tells_resolved (room_table resolved_size room) (machine_table m []) (machine_check m) number t (resolving.told (resolution key care m))
     × (answer' ≡ tell_in (resolved_numbers t) answer)
 
-pub no_number : (w : Found) → tells_resolved (resolving.told (as_resolved w)) ≡ (0, 0)
+no_number : (w : Found) → tells_resolved (resolving.told (as_resolved w)) ≡ (0, 0)
 no_number (At k) = refl
 no_number Nothing = refl
 
@@ -414,7 +414,7 @@ answer_enters κs a r s h =
       (h.1.0, kept_by own call (λ (n : Machine). n.responses) (answered_at x f k verdict m) m r number_is s.1.0.now h.1.1),
     )
 
-abbrev pub tells_report : whole.Told → ℕ × ℕ
+abbrev tells_report : whole.Told → ℕ × ℕ
 tells_report t = (t.refusal, t.also)
 
 ended_no_number : (x : ResponseBit) (verdicts : List ℕ) (m : Machine) → tells_report (whole.told (ended x verdicts m)) ≡ (0, 0)
@@ -487,7 +487,7 @@ start_enters κs a r s h =
       ),
     )
 
-abbrev pub tells_stepped : ToldStepped → ℕ × ℕ
+abbrev tells_stepped : ToldStepped → ℕ × ℕ
 tells_stepped t = (t.refusal, t.also)
 
 -- a step while none is held is not passed
@@ -539,7 +539,7 @@ step_enters κs a r s h =
       ),
     )
 
-abbrev pub tells_total : totals.Told → ℕ × ℕ
+abbrev tells_total : totals.Told → ℕ × ℕ
 tells_total t = (t.refusal, t.also)
 
 pub total_enters : (κs : Lfts 4) (a : ArgsD total.signature κs) (r : ResD total.signature κs) (s : AtExit (ended_of 4 total-kinds.ps total-kinds.r) κs)

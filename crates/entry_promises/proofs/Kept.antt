@@ -71,19 +71,19 @@ use Rattle.entry_images.proofs.dushvaneth_read.Reads as read-reads
 -- ---- what is lent, and what the call leaves of it
 
 -- what holds of it before, and of what the call leaves, holds afterwards
-pub still : {A : Type 0} (P : A → Type 0) (n : ℕ) (before left then : A) → Keeps n before left then → P before → P left → P then
+still : {A : Type 0} (P : A → Type 0) (n : ℕ) (before left then : A) → Keeps n before left then → P before → P left → P then
 still P zero before left then k b l = rw (k.accepted refl) l
 still P (suc n) before left then k b l = rw (k.refused (suc-ne-zero n)) b
 
 -- the machine m with a job held, and what is lent of its responses
-pub so : (n : ℕ) (m q : Machine) (h : Held) {rs : List ℕ} {w : ℕ} {ws : List ℕ} → Keeps n m.responses q.responses rs → Stays m q
+so : (n : ℕ) (m q : Machine) (h : Held) {rs : List ℕ} {w : ℕ} {ws : List ℕ} → Keeps n m.responses q.responses rs → Stays m q
     → Typed (record { machine = m; held = h }) → Typed (state w ws rs h)
 unfolding Stays
 so n m q h {rs} k f t = record { responses = still AreResponses n m.responses q.responses rs k t.responses (f t.responses); job = t.job }
 
 -- ---- a record
 
-unfoldable pub Fits : Held → Type 0
+Fits : Held → Type 0
 Fits h = JobsFit (held_jobs h)
 
 held_fits : (bs : List ℕ) → (length bs ≡ record_size → JobFits (job_of bs)) → Fits (held_in bs)
@@ -121,7 +121,7 @@ unfolding Fits
 record_fits Nothing f = zeros_fit
 record_fits (Holds o) f = subst JobFits (sym (job_back o f.0)) f.0
 
-pub kept_in : (h : Held) (d : List ℕ) → Fits h → Fits (held_in d) → Fits (held_in (tell_in (record_of h) d))
+kept_in : (h : Held) (d : List ℕ) → Fits h → Fits (held_in d) → Fits (held_in (tell_in (record_of h) d))
 kept_in h d f g = go (ltb (length d) (length (record_of h)))
   where
     go : (b : Bool) → Fits (held_in (pick b d (sets d 0 (record_of h))))

@@ -37,7 +37,7 @@ use Rattle.entry_forms.proofs.Numbers.{panel_in_lem, check_in}
 use Rattle.entry_forms.proofs.Entering.{Tells, told_passed, told_refused, left_passed, left_refused}
 use Rattle.entry_pulses.specs.Entries.{load_check, load_number, loaded, pulse_numbers, pulse_own, pulse_entry, pulse_told, pulse_left, explained_numbers, explain_own, explain_entry, explained_told, resolved_told}
 
-pub lower_passed : (c d : Check) → lower c d ≡ Passed → (c ≡ Passed) × (d ≡ Passed)
+lower_passed : (c d : Check) → lower c d ≡ Passed → (c ≡ Passed) × (d ≡ Passed)
 lower_passed Passed d h = (refl, h)
 lower_passed (Refused r) d h = (cc, cc)
 

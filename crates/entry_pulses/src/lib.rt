@@ -64,7 +64,7 @@ pub extern "C" fn dushvaneth_load(registers: &mut [u64], register: u8, value: u6
 
 // ---- both pulses
 
-pub fn check_pulse(registers: &[u64], lines: u8, room: usize) -> Check
+fn check_pulse(registers: &[u64], lines: u8, room: usize) -> Check
     ensures { result ≡ entries.pulse_own registers.now lines room }
 {
     let rest = lower(check_lines(lines), check_room(PULSE_SIZE, room));
@@ -73,7 +73,7 @@ pub fn check_pulse(registers: &[u64], lines: u8, room: usize) -> Check
 
 const PULSE_SIZE: usize = 4;
 
-pub fn tell_pulse(answer: &mut [u64], given: Answer) -> u32
+fn tell_pulse(answer: &mut [u64], given: Answer) -> u32
     ensures value { result ≡ (told given).refusal }
     ensures answer_after { answer.new ≡ tell_in (entries.pulse_numbers (told given)) answer.old }
 {
@@ -153,13 +153,13 @@ pub extern "C" fn dushvaneth_cells_pulse(
 
 const EXPLAINED_SIZE: usize = 5;
 
-pub fn check_explain(registers: &[u64], room: usize) -> Check
+fn check_explain(registers: &[u64], room: usize) -> Check
     ensures { result ≡ entries.explain_own registers.now room }
 {
     lower(check_panel(registers), check_room(EXPLAINED_SIZE, room))
 }
 
-pub fn tell_explained(answer: &mut [u64], given: Explained) -> u32
+fn tell_explained(answer: &mut [u64], given: Explained) -> u32
     ensures value { result ≡ (reasons.told given).refusal }
     ensures answer_after { answer.new ≡ tell_in (entries.explained_numbers (reasons.told given)) answer.old }
 {

@@ -43,9 +43,9 @@ pub extern "C" fn dushvaneth_show(
 
 // ---- answer
 
-pub const REPLY_SIZE: usize = 2;
+const REPLY_SIZE: usize = 2;
 
-pub fn tell_reply(answer: &mut [u64], reply: Reply) -> u32
+fn tell_reply(answer: &mut [u64], reply: Reply) -> u32
     ensures value { result ≡ (rounding.told reply).0 }
     ensures answer_after { answer.new ≡ tell_in (entries.reply_numbers (rounding.told reply)) answer.old }
 {
@@ -64,7 +64,7 @@ pub fn tell_reply(answer: &mut [u64], reply: Reply) -> u32
 }
 
 // 1 says done, as in the list of a whole round.
-pub fn verdict_of(verdict: u8) -> Verdict
+fn verdict_of(verdict: u8) -> Verdict
     ensures { result ≡ whole.verdict_by (eqb verdict 1) }
 {
     if verdict == 1 {
@@ -115,9 +115,9 @@ pub extern "C" fn dushvaneth_answer(
 
 // ---- a whole round
 
-pub const REPORT_SIZE: usize = 4;
+const REPORT_SIZE: usize = 4;
 
-pub fn tell_report(answer: &mut [u64], report: Report) -> u32
+fn tell_report(answer: &mut [u64], report: Report) -> u32
     ensures value { result ≡ (whole.told report).refusal }
     ensures answer_after { answer.new ≡ tell_in (entries.report_numbers (whole.told report)) answer.old }
 {

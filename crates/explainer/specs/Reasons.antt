@@ -11,7 +11,6 @@ use Rattle.machine.specs.declared.Refusal.TheVariants.{NoSuchWord}
 use Rattle.machine.specs.declared.Check.{Check}
 use Rattle.machine.specs.Machine.{Machine, response_bits, Syllable, is_top, down_from, selected}
 use Rattle.machine.specs.Search.{code_at, satisfied}
-use Rattle.machine.specs.Pulse.{raising}
 use Rattle.machine.specs.Cells.{cell}
 use Rattle.machine.specs.Refusals.{◌else◌, refuse, pulse_check, answer_by, number_of, also_answers}
 use Rattle.explainer.specs.declared.Explained.{Explained}
@@ -70,7 +69,7 @@ reason n p w r = pick (selected p.key p.care r) (topmost n p w n) (not_selected 
 
 -- line search raised, and no other
 abbrev pub searching : Lines
-searching = raising true false
+searching = record { search = true; read = false; write = false; add = false; multiwrite = false; multiadd = false; complement = false }
 
 -- "Refusals: as for a search, with 7 for the word number."
 unfoldable pub explain_check : Machine → Panel → WordSlice → Check

@@ -185,7 +185,15 @@ pub fn check(
 ) -> Check
     ensures { result ≡ reasons.explain_check (machine width words.now responses.now) panel word }
 {
-    let searching = Lines::raising(true, false);
+    let searching = Lines {
+        search: true,
+        read: false,
+        write: false,
+        add: false,
+        multiwrite: false,
+        multiadd: false,
+        complement: false,
+    };
     let as_search = wide::check(words, responses, width, panel, searching);
     let number = refuse(Refusal::NoSuchWord, words.len() <= word.0);
     in_order(as_search, number)

@@ -16,9 +16,8 @@ use Rattle.rounds.specs.Handout.{responders, responder}
 use Rattle.rounds.proofs.Responders.{first_lowest}
 use Rattle.jobs.specs.Runs.{State}
 use Rattle.hosts.specs.Rounds as events
-use Rattle.hosts.specs.Rounds.{Responder, lower, Given, words_of, Phase, ready, showing, answered, pending, settled, Entry, Own, HostedBy, Last, Again, Orderly, Shown, Finished}
+use Rattle.hosts.specs.Rounds.{Responder, lower, Given, words_of, Phase, ready, showing, answered, pending, settled, Entry, Own, Hosted, Last, Again, Orderly, Shown, Finished}
 use Rattle.hosts.specs.Images.{Typed}
-use Rattle.hosts.proofs.Staying.{Keeps}
 use Rattle.hosts.proofs.Counting.{responder_at, responder_is, none_left}
 use Rattle.hosts.proofs.Standing.{shown_by, none_by, standing}
 use Rattle.hosts.proofs.Rounds.{one_word, shown_turn, taken_is_shown, ends, faulty_has, done_has, others_have}
@@ -70,7 +69,7 @@ take_all [] (suc n) h = refl
 take_all (k ∷ ks) zero h = absurd (omega arith)
 take_all (k ∷ ks) (suc n) h = ap (λ (js : List ℕ). k ∷ js) (take_all ks n (omega arith))
 
-module _ (Else : State → State → Type 0) (keeps : Keeps Else) (x f : ResponseBit) (b : State) (fine : round_check x f b.machine ≡ Passed) (typed : Typed b) where
+module _ (x f : ResponseBit) (b : State) (fine : round_check x f b.machine ≡ Passed) (typed : Typed b) where
   -- ---- the book
 
   -- word k is in hand: shown last, and not stored; and, after a stop, to be shown again
@@ -121,20 +120,20 @@ module _ (Else : State → State → Type 0) (keeps : Keeps Else) (x f : Respons
   book_stop (answered v) vs book (k, h) = inr (k, hand_lost k vs book h)
 
   -- the call's own entry
-  book_own : {s t : State} {image : List ℕ} {phase next : Phase} {vs : List Given} {book new : List Entry} → HostedBy Else x f b s image phase vs book
+  book_own : {s t : State} {image : List ℕ} {phase next : Phase} {vs : List Given} {book new : List Entry} → Hosted x f b s image phase vs book
       → Own x f vs s phase book t next new → Booked phase vs book → Booked next vs new
   unfolding Booked show_of
   book_own {vs = vs} {book = book} h (events.shows {k = k} e) c =
-      let p = shown_turn Else keeps x f b fine typed (standing Else keeps x f b fine typed (events.owns h (events.shows {k = k} e))) in
+      let p = shown_turn x f b fine typed (standing x f b fine typed (events.owns h (events.shows {k = k} e))) in
       book_show k.0 vs book p.0 p.1 c
   book_own {s = s} {vs = vs} {book = book} h (events.asks {j = j} {k = k} e) c =
       let p = (shown_by (show_check x s.machine) (shown x s.machine) k e).1 in
-      let i : k.0 ≡ j = one_word k (record { 0 = j }) (sym p ∙ (standing Else keeps x f b fine typed h).word j refl) in
+      let i : k.0 ≡ j = one_word k (record { 0 = j }) (sym p ∙ (standing x f b fine typed h).word j refl) in
       rw i (book_ask j vs book c)
   book_own h (events.answers {j = j} k v e) c = (j, c)
   book_own h (events.refused k v e) c = c
 
-  booked : {s : State} {image : List ℕ} {phase : Phase} {vs : List Given} {book : List Entry} → HostedBy Else x f b s image phase vs book → Booked phase vs book
+  booked : {s : State} {image : List ℕ} {phase : Phase} {vs : List Given} {book : List Entry} → Hosted x f b s image phase vs book → Booked phase vs book
   unfolding Booked
   booked (events.opens w) = inl events.nothing_yet
   booked (events.owns h o) = book_own h o (booked h)
@@ -143,7 +142,7 @@ module _ (Else : State → State → Type 0) (keeps : Keeps Else) (x f : Respons
   booked (events.others h o l) = booked h
 
   -- each word shown was the next responder, or the last one again after a stop: as many have been shown as answers are stored, or one more
-  pub in_order : {s : State} {image : List ℕ} {phase : Phase} {vs : List Given} {book : List Entry} → HostedBy Else x f b s image phase vs book
+  pub in_order : {s : State} {image : List ℕ} {phase : Phase} {vs : List Given} {book : List Entry} → Hosted x f b s image phase vs book
       → (many : ℕ) × ((length vs ≤ many) × (many ≤ length vs + 1) × Orderly x b.machine book many)
   unfolding Booked
   in_order {s} {image} {phase} {vs} {book} h = go phase (booked h)
@@ -158,12 +157,12 @@ module _ (Else : State → State → Type 0) (keeps : Keeps Else) (x f : Respons
       go (answered v) (k, p) = one p.orderly
 
   -- none is skipped
-  pub none_skipped : {s : State} {image : List ℕ} {phase : Phase} {vs : List Given} {book : List Entry} → HostedBy Else x f b s image phase vs book
+  pub none_skipped : {s : State} {image : List ℕ} {phase : Phase} {vs : List Given} {book : List Entry} → Hosted x f b s image phase vs book
       → (k : ℕ) → Responder x b.machine k → lower x b.machine k < length vs → Shown k (lower x b.machine k) book
   none_skipped h k r l = let o = in_order h in shown_in x b.machine o.1.2 k r (omega (arith, l, o.1.0))
 
   -- whatever stands in the book was a responder, shown after as many stored answers as it has lower ones
-  pub each_in_turn : {s : State} {image : List ℕ} {phase : Phase} {vs : List Given} {book : List Entry} → HostedBy Else x f b s image phase vs book
+  pub each_in_turn : {s : State} {image : List ℕ} {phase : Phase} {vs : List Given} {book : List Entry} → Hosted x f b s image phase vs book
       → (k n : ℕ) → Shown k n book → Responder x b.machine k × (lower x b.machine k ≡ n)
   each_in_turn h k n s = let o = in_order h in in_turn x b.machine o.1.2 k n s
 
@@ -181,17 +180,17 @@ module _ (Else : State → State → Type 0) (keeps : Keeps Else) (x f : Respons
   one_more_word (g ∷ vs) (k ∷ ks) a h l e =
       ap₂ (λ (j : ℕ) (js : List ℕ). j ∷ js) (ap (λ (js : List ℕ). get_or js 0 0) h) (one_more_word vs ks a (ap (drop 1) h) (omega arith) e)
 
-  turn_own : {s t : State} {image : List ℕ} {phase next : Phase} {vs : List Given} {book new : List Entry} → HostedBy Else x f b s image phase vs book
+  turn_own : {s t : State} {image : List ℕ} {phase next : Phase} {vs : List Given} {book new : List Entry} → Hosted x f b s image phase vs book
       → Own x f vs s phase book t next new → InTurn vs → InTurn (vs ++ pending phase) → InTurn (vs ++ pending next)
   unfolding InTurn
   turn_own h (events.shows e) p q = q
   turn_own h (events.asks e) p q = q
   turn_own {vs = vs} h (events.answers {j = j} k v e) p q =
-      let w = shown_turn Else keeps x f b fine typed (standing Else keeps x f b fine typed h) in
-      one_more_word vs (responders x b.machine) (record { word = k.0; verdict = v }) p w.0 (taken_is_shown Else keeps x f b fine typed h k e ∙ sym w.1)
+      let w = shown_turn x f b fine typed (standing x f b fine typed h) in
+      one_more_word vs (responders x b.machine) (record { word = k.0; verdict = v }) p w.0 (taken_is_shown x f b fine typed h k e ∙ sym w.1)
   turn_own h (events.refused k v e) p q = q
 
-  in_turns : {s : State} {image : List ℕ} {phase : Phase} {vs : List Given} {book : List Entry} → HostedBy Else x f b s image phase vs book
+  in_turns : {s : State} {image : List ℕ} {phase : Phase} {vs : List Given} {book : List Entry} → Hosted x f b s image phase vs book
       → InTurn vs × InTurn (vs ++ pending phase)
   unfolding InTurn
   in_turns (events.opens w) = (refl, refl)
@@ -201,16 +200,16 @@ module _ (Else : State → State → Type 0) (keeps : Keeps Else) (x f : Respons
   in_turns (events.stops {vs = vs} h r) = let p = in_turns h in (p.0, rw (append-nil vs) p.0)
   in_turns (events.others h o l) = in_turns h
 
-  pub words_in_turn : {s : State} {image : List ℕ} {phase : Phase} {vs : List Given} {book : List Entry} → HostedBy Else x f b s image phase vs book
+  pub words_in_turn : {s : State} {image : List ℕ} {phase : Phase} {vs : List Given} {book : List Entry} → Hosted x f b s image phase vs book
       → words_of vs ≡ take (length vs) (responders x b.machine)
   unfolding InTurn
   words_in_turn h = (in_turns h).0
 
   -- ---- the end
 
-  module _ {s : State} {image : List ℕ} {vs : List Given} {book : List Entry} (h : HostedBy Else x f b s image ready vs book) (none : show_of x s.machine ≡ resolved.Nothing) where
+  module _ {s : State} {image : List ℕ} {vs : List Given} {book : List Entry} (h : Hosted x f b s image ready vs book) (none : show_of x s.machine ≡ resolved.Nothing) where
     all_answered : length vs ≡ length (responders x b.machine)
-    all_answered = ends Else keeps x f b fine typed h none
+    all_answered = ends x f b fine typed h none
 
     its_answer : (k : ℕ) → Responder x b.machine k → lower x b.machine k < length vs
     its_answer k r = let p = (responder_is x b.machine k r).0 in omega (arith, p, all_answered)
@@ -232,8 +231,8 @@ module _ (Else : State → State → Type 0) (keeps : Keeps Else) (x f : Respons
       all_shown = λ k r. none_skipped h k r (its_answer k r);
       only_responders = λ k i t. each_in_turn h k i t;
       one_answer_each = words_in_turn h ∙ take_all (responders x b.machine) (length vs) (omega (arith, all_answered));
-      faulty = λ k r e. rw (numbered k r) at (faulty_has Else keeps x f b fine typed h (lower x b.machine k) (its_answer k r) e);
-      done = λ k r e. rw (numbered k r) at (done_has Else keeps x f b fine typed h (lower x b.machine k) (its_answer k r) e);
-      elsewhere = λ k n. others_have Else keeps x f b fine typed h k (λ i l e. n (rw e at (responder_at x b.machine i (omega (arith, l, all_answered))).0));
+      faulty = λ k r e. rw (numbered k r) at (faulty_has x f b fine typed h (lower x b.machine k) (its_answer k r) e);
+      done = λ k r e. rw (numbered k r) at (done_has x f b fine typed h (lower x b.machine k) (its_answer k r) e);
+      elsewhere = λ k n. others_have x f b fine typed h k (λ i l e. n (rw e at (responder_at x b.machine i (omega (arith, l, all_answered))).0));
       none_left = none_there;
     }

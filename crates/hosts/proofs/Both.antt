@@ -11,9 +11,8 @@ use Rattle.rounds.proofs.Handout.{refused_nothing}
 use Rattle.jobs.specs.Runs.{State}
 use Rattle.hosts.specs.Images.{Typed}
 use Rattle.hosts.specs.Rounds as events
-use Rattle.hosts.specs.Rounds.{Other, Beside, Given, Phase, Entry, Own, Hosted, Both}
+use Rattle.hosts.specs.Rounds.{Beside, Given, Phase, Entry, Own, Hosted, Both}
 use Rattle.hosts.proofs.Elsewhere.{answer_spares}
-use Rattle.hosts.proofs.Staying.{others_keep}
 use Rattle.hosts.proofs.Standing.{refused_by, standing}
 
 -- a call of a round over Y and G, seen by a round over X and F
@@ -57,7 +56,7 @@ module _ (x f y g : ResponseBit) (b c : State) (fine : round_check x f b.machine
   -- where the second begins, responses and job are still what their types say
   pub second_typed : Typed b → {s : State} {image : List ℕ} {phase turn : Phase} {vs us : List Given} {book log : List Entry}
       → Both x f y g b c s image phase vs book turn us log → Typed c
-  second_typed typed (events.joins h w) = (standing Other others_keep x f b fine typed h).kinds
+  second_typed typed (events.joins h w) = (standing x f b fine typed h).kinds
   second_typed typed (events.first_owns t o) = second_typed typed t
   second_typed typed (events.second_owns t o) = second_typed typed t
   second_typed typed (events.both_store t w) = second_typed typed t

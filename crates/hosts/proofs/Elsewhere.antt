@@ -22,7 +22,6 @@ use Rattle.handout.specs.declared.Report.TheVariants as report
 use Rattle.handout.specs.Whole.{verdict_of, ended, after_ended, report_of, after_round}
 use Rattle.handout.proofs.Whole.{whole_round}
 use Rattle.image_layout.specs.Sizes.{response_size}
-use Rattle.ends.specs.Ends.{SameSize}
 use Rattle.image_layout.specs.Format.{AreResponses}
 use Rattle.hosts.specs.Rounds.{Leaves, Beside}
 
@@ -66,9 +65,6 @@ answers_responses {y} {g} {m} (one_more {n = n} k v t p) h =
 module _ {y g : ResponseBit} {m n : Machine} {us : List Verdict} (t : Answers y g m us n) where
   pub answers_width : n.width ≡ m.width
   answers_width = (run t).width
-
-  pub answers_size : SameSize m n
-  answers_size = record { width = (run t).width; words = ap length (run t).words; responses = (run t).as_many }
 
   pub answers_pass : machine_check m ≡ Passed → machine_check n ≡ Passed
   answers_pass h = like_machine m n (run t).width (run t).words (run t).as_many ∙ h

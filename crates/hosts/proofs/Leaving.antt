@@ -30,9 +30,7 @@ use Rattle.job_plans.proofs.Fair.{fair}
 use Rattle.job_plans.specs.Commands.{opening, trial, second, command}
 use Rattle.jobs.specs.Calls.{step_check, gave, step_of, machine_after, after_step}
 use Rattle.jobs.specs.Runs.{State, stepped}
-use Rattle.ends.specs.Ends.{SameSize}
-use Rattle.ends.proofs.Machines.{passes, same, response_at, words_length, responses_length}
-use Rattle.modules.proofs.Parts.{fits, part_passes, length_within, within_passes}
+use Rattle.ends.proofs.Machines.{passes, same, response_at, responses_length}
 use Rattle.ends.proofs.Starts.{accepted_is}
 use Rattle.rounds.specs.Handout.{response}
 use Rattle.rounds.proofs.Marks.{mask_else}
@@ -40,9 +38,9 @@ use Rattle.rounds.specs.Round.{Fit}
 use Rattle.hosts.specs.Rounds as events
 use Rattle.hosts.specs.Rounds.{Looks, Other, Leaves, ApartFor, Apart}
 use Rattle.hosts.specs.Images.{Typed}
-use Rattle.hosts.proofs.Typed.{pulsed_responses, part_under, within_under, first_fits, stepped_typed}
+use Rattle.hosts.proofs.Typed.{pulsed_responses, first_fits, stepped_typed}
 use Rattle.hosts.proofs.Fits.{pulsed_passes}
-use Rattle.hosts.proofs.Elsewhere.{one_answer, whole_answers, answers_size, answers_pass, answers_responses}
+use Rattle.hosts.proofs.Elsewhere.{one_answer, whole_answers, answers_pass, answers_responses}
 use Rattle.hosts.proofs.Below.{bit_below, digit_below, flip_below, either_below}
 
 -- ---- the machine that each leaves
@@ -55,10 +53,6 @@ pub accepted_step : (s : State) {k : Command} {c : ℕ} {h : Held} → step_of s
     → (stepped s).machine ≡ pulsed s.machine k.panel k.lines
 unfolding stepped after_step
 accepted_step s e = ap (λ (a : Stepped). machine_after a s.machine) e
-
-pulsed_size : (m : Machine) (p : Panel) (l : Lines) → machine_check m ≡ Passed → SameSize m (pulsed m p l)
-unfolding pulsed
-pulsed_size m p l h = let s = sound m h in record { width = refl; words = words_length m s p l; responses = responses_length m s p l ∙ sym (same m s) }
 
 -- a call that only looks changes nothing of the machine
 pub looks_nothing : {s t : State} → Looks s t → t.machine ≡ s.machine
@@ -78,30 +72,12 @@ looks_typed (events.starts {s} {q} o c a) t =
 looks_typed (events.writes output e) t = t
 looks_typed (events.loads before after) t = t
 
--- no word is added or lost
-pub other_size : {s t : State} → Other s t → machine_check s.machine ≡ Passed → SameSize s.machine t.machine
-other_size (events.looks l) h = let e = looks_nothing l in record { width = ap (λ (m : Machine). m.width) e; words = ap (λ (m : Machine). length m.words) e; responses = ap (λ (m : Machine). length m.responses) e }
-other_size (events.pulses {s} p l a) h = rw (accepted_pulse s.machine p l a) (pulsed_size s.machine p l h)
-other_size (events.steps {s} {k} a) h = rw (accepted_step s a) (pulsed_size s.machine k.panel k.lines h)
-other_size (events.answers_word {s} y g k v a) h = answers_size (one_answer y g k v s.machine a)
-other_size (events.works_round {s} y g vs a) h = answers_size (whole_answers y g vs s.machine a)
-other_size (events.in_run {s} {u} q f o) h =
-    let m = s.machine in
-    let e = other_size o (part_passes q m h (fits (length m.words) q f)) in
-    record { width = refl; words = length_within q m.words u.machine.words e.words; responses = length_within q m.responses u.machine.responses e.responses }
-
 pub other_passes : {s t : State} → Other s t → machine_check s.machine ≡ Passed → machine_check t.machine ≡ Passed
 other_passes (events.looks l) h = rw (looks_nothing l) h
 other_passes (events.pulses {s} p l a) h = rw (accepted_pulse s.machine p l a) (pulsed_passes s.machine p l h)
 other_passes (events.steps {s} {k} a) h = rw (accepted_step s a) (pulsed_passes s.machine k.panel k.lines h)
 other_passes (events.answers_word {s} y g k v a) h = answers_pass (one_answer y g k v s.machine a) h
 other_passes (events.works_round {s} y g vs a) h = answers_pass (whole_answers y g vs s.machine a) h
-other_passes (events.in_run {s} {u} q f o) h =
-    let m = s.machine in
-    let i = fits (length m.words) q f in
-    let p = part_passes q m h i in
-    let e = other_size o p in
-    within_passes q m u.machine i h (other_passes o p) e.width e.words e.responses
 
 pub other_typed : {s t : State} → Other s t → Typed s → Typed t
 other_typed (events.looks l) t = looks_typed l t
@@ -112,9 +88,6 @@ other_typed (events.answers_word {s} y g k v a) t =
     record { responses = answers_responses (one_answer y g k v s.machine a) t.responses; job = t.job }
 other_typed (events.works_round {s} y g vs a) t =
     record { responses = answers_responses (whole_answers y g vs s.machine a) t.responses; job = t.job }
-other_typed (events.in_run {s} {u} q f o) t =
-    let v = other_typed o (record { responses = part_under q _ s.machine.responses t.responses; job = t.job }) in
-    record { responses = within_under q _ s.machine.responses u.machine.responses t.responses v.responses; job = v.job }
 
 -- ---- pulses
 

@@ -30,8 +30,7 @@ use Rattle.rounds.proofs.Handout.{HandedOut, handed_out}
 use Rattle.jobs.specs.Runs.{State}
 use Rattle.image_layout.specs.Format.{image_of}
 use Rattle.hosts.specs.Images.{Stores, Resumes}
-use Rattle.hosts.specs.Rounds.{Responder, lower, Given, verdicts_of, Phase, ready, showing, pending, Entry, HostedBy}
-use Rattle.hosts.proofs.Staying.{Keeps}
+use Rattle.hosts.specs.Rounds.{Responder, lower, Given, verdicts_of, Phase, ready, showing, pending, Entry, Hosted}
 use Rattle.hosts.proofs.Images.{can_store, can_resume}
 use Rattle.hosts.specs.Images.{Typed}
 use Rattle.hosts.proofs.Shadow.{shadow_responders, shadow_shown, shadow_fault}
@@ -42,12 +41,12 @@ use Rattle.hosts.proofs.Standing.{none_by, fit, shade, Kept, Standing, standing}
 pub one_word : (k j : WordSlice) → found.At k ≡ found.At j → k.0 ≡ j.0
 one_word k j e = cc
 
-module _ (Else : State → State → Type 0) (keeps : Keeps Else) (x f : ResponseBit) (b : State) (fine : round_check x f b.machine ≡ Passed) (typed : Typed b) where
+module _ (x f : ResponseBit) (b : State) (fine : round_check x f b.machine ≡ Passed) (typed : Typed b) where
   abbrev Stands : State → List ℕ → Phase → List Given → Type 0
-  Stands s image phase vs = Standing Else keeps x f b fine typed s image phase vs
+  Stands s image phase vs = Standing x f b fine typed s image phase vs
 
   round_fit : Fit x f
-  round_fit = fit Else keeps x f b fine typed
+  round_fit = fit x f b fine typed
 
   -- show is not turned down
   show_accepted : {s : State} {image : List ℕ} {phase : Phase} {vs : List Given} → Stands s image phase vs → show_check x s.machine ≡ Passed
@@ -56,31 +55,31 @@ module _ (Else : State → State → Type 0) (keeps : Keeps Else) (x f : Respons
 
   -- what the answers given make of the first image's marks
   module _ {s : State} {image : List ℕ} {phase : Phase} {vs : List Given} (w : Stands s image phase vs) where
-    out : HandedOut x f (verdicts_of (vs ++ pending phase)) (shade Else keeps x f b fine typed b.machine) (shade Else keeps x f b fine typed s.machine)
+    out : HandedOut x f (verdicts_of (vs ++ pending phase)) (shade x f b fine typed b.machine) (shade x f b fine typed s.machine)
     out = handed_out w.trail
 
     next_shown : shown x s.machine ≡ first_of (drop (length (vs ++ pending phase)) (responders x b.machine))
     next_shown =
         sym (shadow_shown x f round_fit b.machine s.machine) ∙ out.next
-        ∙ ap (λ (i : ℕ). first_of (drop i (responders x (shade Else keeps x f b fine typed b.machine)))) (length-map (vs ++ pending phase) (λ (a : Given). a.verdict))
+        ∙ ap (λ (i : ℕ). first_of (drop i (responders x (shade x f b fine typed b.machine)))) (length-map (vs ++ pending phase) (λ (a : Given). a.verdict))
         ∙ ap (λ (ks : List ℕ). first_of (drop (length (vs ++ pending phase)) ks)) (shadow_responders x f round_fit b.machine b.machine)
 
     enough : length (vs ++ pending phase) ≤ length (responders x b.machine)
     enough = rw (shadow_responders x f round_fit b.machine b.machine, length-map (vs ++ pending phase) (λ (a : Given). a.verdict)) at out.enough
 
-    responder_shade : (i : ℕ) → responder x (shade Else keeps x f b fine typed b.machine) i ≡ responder x b.machine i
+    responder_shade : (i : ℕ) → responder x (shade x f b fine typed b.machine) i ≡ responder x b.machine i
     responder_shade i = ap (λ (ks : List ℕ). get_or ks i 0) (shadow_responders x f round_fit b.machine b.machine)
 
-    fault_now : (i : ℕ) → bit (response (shade Else keeps x f b fine typed s.machine) (responder x (shade Else keeps x f b fine typed b.machine) i)) f.0
+    fault_now : (i : ℕ) → bit (response (shade x f b fine typed s.machine) (responder x (shade x f b fine typed b.machine) i)) f.0
         ≡ bit (response s.machine (responder x b.machine i)) f.0
     fault_now i =
-        shadow_fault x f round_fit b.machine s.machine (responder x (shade Else keeps x f b fine typed b.machine) i)
+        shadow_fault x f round_fit b.machine s.machine (responder x (shade x f b fine typed b.machine) i)
         ∙ ap (λ (k : ℕ). bit (response s.machine k) f.0) (responder_shade i)
 
-    fault_first : (i : ℕ) → bit (response (shade Else keeps x f b fine typed b.machine) (responder x (shade Else keeps x f b fine typed b.machine) i)) f.0
+    fault_first : (i : ℕ) → bit (response (shade x f b fine typed b.machine) (responder x (shade x f b fine typed b.machine) i)) f.0
         ≡ bit (response b.machine (responder x b.machine i)) f.0
     fault_first i =
-        shadow_fault x f round_fit b.machine b.machine (responder x (shade Else keeps x f b fine typed b.machine) i)
+        shadow_fault x f round_fit b.machine b.machine (responder x (shade x f b fine typed b.machine) i)
         ∙ ap (λ (k : ℕ). bit (response b.machine k) f.0) (responder_shade i)
 
   -- ---- a word that is shown
@@ -91,18 +90,18 @@ module _ (Else : State → State → Type 0) (keeps : Keeps Else) (x f : Respons
       let p = first_of_rest (record { 0 = k }) (length (vs ++ [])) (responders x b.machine) (sym (next_shown w) ∙ w.word k refl) in
       rw (append-nil vs) at p
 
-  pub was_next : {s : State} {image : List ℕ} {k : ℕ} {vs : List Given} {book : List Entry} → HostedBy Else x f b s image (showing k) vs book
+  pub was_next : {s : State} {image : List ℕ} {k : ℕ} {vs : List Given} {book : List Entry} → Hosted x f b s image (showing k) vs book
       → Responder x b.machine k × (lower x b.machine k ≡ length vs)
   was_next {s} {image} {k} {vs} h =
-      let p = shown_turn (standing Else keeps x f b fine typed h) in
+      let p = shown_turn (standing x f b fine typed h) in
       let q = responder_at x b.machine (length vs) p.0 in
       rw p.1 at q
 
   -- ---- ready to show
 
-  module _ {s : State} {image : List ℕ} {vs : List Given} {book : List Entry} (h : HostedBy Else x f b s image ready vs book) where
+  module _ {s : State} {image : List ℕ} {vs : List Given} {book : List Entry} (h : Hosted x f b s image ready vs book) where
     stands : Stands s image ready vs
-    stands = standing Else keeps x f b fine typed h
+    stands = standing x f b fine typed h
 
     counted : length (vs ++ []) ≡ length vs
     counted = ap length (append-nil vs)
@@ -160,40 +159,40 @@ module _ (Else : State → State → Type 0) (keeps : Keeps Else) (x f : Respons
   bits_fine w = rw w.passes (round_parts x f b.machine fine).1
 
   -- the word that is shown can be answered, either way
-  pub answerable : {s : State} {image : List ℕ} {k : ℕ} {vs : List Given} {book : List Entry} → HostedBy Else x f b s image (showing k) vs book
+  pub answerable : {s : State} {image : List ℕ} {k : ℕ} {vs : List Given} {book : List Entry} → Hosted x f b s image (showing k) vs book
       → reply_of x f (record { 0 = k }) s.machine ≡ reply.Taken
   unfolding reply_of
   answerable {s} {image} {k} h =
-      let w = standing Else keeps x f b fine typed h in
+      let w = standing x f b fine typed h in
       ap (λ (c : Check). answer_by c reply.Refused reply.Taken) (acceptable x f (record { 0 = k }) s.machine (bits_fine w) (w.word k refl))
 
   -- asked again, show gives that word again
-  pub same_again : {s : State} {image : List ℕ} {k : ℕ} {vs : List Given} {book : List Entry} → HostedBy Else x f b s image (showing k) vs book
+  pub same_again : {s : State} {image : List ℕ} {k : ℕ} {vs : List Given} {book : List Entry} → Hosted x f b s image (showing k) vs book
       → show_of x s.machine ≡ resolved.At (record { 0 = k })
   unfolding show_of
   same_again {k = k} h =
-      let w = standing Else keeps x f b fine typed h in
+      let w = standing x f b fine typed h in
       ap₂ (λ (c : Check) (d : Found). answer_by c resolved.Refused (as_resolved d)) (show_accepted w) (w.word k refl)
 
   -- and no other word's answer is taken
-  pub taken_is_shown : {s : State} {image : List ℕ} {j : ℕ} {vs : List Given} {book : List Entry} → HostedBy Else x f b s image (showing j) vs book
+  pub taken_is_shown : {s : State} {image : List ℕ} {j : ℕ} {vs : List Given} {book : List Entry} → Hosted x f b s image (showing j) vs book
       → (k : WordSlice) → reply_of x f k s.machine ≡ reply.Taken → k.0 ≡ j
   unfolding reply_of
   taken_is_shown {s} {image} {j} h k e =
       let p = (accepted x f k s.machine (taken_passed (answer_check x f k s.machine) e)).word in
-      one_word k (record { 0 = j }) (sym p ∙ (standing Else keeps x f b fine typed h).word j refl)
+      one_word k (record { 0 = j }) (sym p ∙ (standing x f b fine typed h).word j refl)
 
   -- what stands can be stored in any output that is long enough
-  pub storable_round : {s : State} {image : List ℕ} {phase : Phase} {vs : List Given} {book : List Entry} → HostedBy Else x f b s image phase vs book
+  pub storable_round : {s : State} {image : List ℕ} {phase : Phase} {vs : List Given} {book : List Entry} → Hosted x f b s image phase vs book
       → (output : List ℕ) → length (image_of s) ≤ length output → Stores output s (image_of s)
   storable_round {s} h =
-      let w = standing Else keeps x f b fine typed h in
+      let w = standing x f b fine typed h in
       can_store s (record { machine = w.passes; jobs = w.job; responses = w.kinds.responses; typed = w.kinds.job })
 
   first_size : length b.machine.responses ≡ length b.machine.words
   first_size = same b.machine (sound b.machine (round_parts x f b.machine fine).0)
 
-  from_kept : {image : List ℕ} {vs : List Given} → Kept Else keeps x f b fine typed image vs
+  from_kept : {image : List ℕ} {vs : List Given} → Kept x f b fine typed image vs
       → (words responses : List ℕ) → length b.machine.words ≤ length words → length b.machine.words ≤ length responses
       → (t : State) × Resumes words responses image t
   from_kept i words responses l g =
@@ -202,7 +201,7 @@ module _ (Else : State → State → Type 0) (keeps : Keeps Else) (x f : Respons
       (i.state, rw i.is (can_resume i.state i.stored words responses (omega (arith, l, n)) (omega (arith, g, n))))
 
   -- the last stored image can be resumed, into any destinations that are long enough
-  pub resumable : {s : State} {image : List ℕ} {phase : Phase} {vs : List Given} {book : List Entry} → HostedBy Else x f b s image phase vs book
+  pub resumable : {s : State} {image : List ℕ} {phase : Phase} {vs : List Given} {book : List Entry} → Hosted x f b s image phase vs book
       → (words responses : List ℕ) → length b.machine.words ≤ length words → length b.machine.words ≤ length responses
       → (t : State) × Resumes words responses image t
-  resumable h words responses l g = from_kept (standing Else keeps x f b fine typed h).kept words responses l g
+  resumable h words responses l g = from_kept (standing x f b fine typed h).kept words responses l g

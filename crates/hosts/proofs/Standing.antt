@@ -31,12 +31,13 @@ use Rattle.image_layout.specs.Format.{image_of}
 use Rattle.image.specs.Calls.{Stored}
 use Rattle.hosts.specs.Images.{Stores, Resumes}
 use Rattle.hosts.specs.Rounds as events
-use Rattle.hosts.specs.Rounds.{Leaves, Given, verdicts_of, Phase, ready, showing, answered, pending, settled, Entry, Own, HostedBy}
+use Rattle.hosts.specs.Rounds.{Other, Leaves, Given, verdicts_of, Phase, ready, showing, answered, pending, settled, Entry, Own, Hosted}
 use Rattle.hosts.proofs.Images.{job_check, stored_image, resumed_machine}
 use Rattle.hosts.specs.Images.{Typed}
 use Rattle.hosts.proofs.Shadow.{shadow, shadow_shown, shadow_left, shadow_taken, shadow_after}
 use Rattle.hosts.proofs.Elsewhere.{taken_passed, set_responses, answered_fits, answered_machine}
-use Rattle.hosts.proofs.Staying.{Keeps}
+use Rattle.hosts.proofs.Leaving.{other_passes, other_typed}
+use Rattle.hosts.proofs.Staying.{other_job}
 
 -- ---- checks taken apart
 
@@ -69,7 +70,7 @@ unfolding machine_check
 same_machine n ws rs qs e =
     ap (λ (k : ℕ). refuse Size (bad_size (length ws) k) else refuse Width (bad_width n) else refuse_word (lowest (too_wide n) 0 ws)) e
 
-module _ (Else : State → State → Type 0) (keeps : Keeps Else) (x f : ResponseBit) (b : State) (fine : round_check x f b.machine ≡ Passed) (typed : Typed b) where
+module _ (x f : ResponseBit) (b : State) (fine : round_check x f b.machine ≡ Passed) (typed : Typed b) where
   pub fit : Fit x f
   fit = round_fits x f b.machine fine
 
@@ -196,14 +197,14 @@ module _ (Else : State → State → Type 0) (keeps : Keeps Else) (x f : Respons
         word = λ k q. absurd (let z : ◌≡◌ {A = ℕ} 0 1 = cc in omega arith);
       })
 
-  other_word : (s t : State) (image : List ℕ) (phase : Phase) (vs : List Given) → Standing s image phase vs → Else s t
+  other_word : (s t : State) (image : List ℕ) (phase : Phase) (vs : List Given) → Standing s image phase vs → Other s t
       → Leaves x f s.machine t.machine → Standing t image phase vs
   other_word s t image phase vs w o l =
       let e = shadow_left x f fit b.machine s.machine t.machine l in
       record {
-        passes = keeps.passes o w.passes;
-        kinds = keeps.typed o w.kinds;
-        job = keeps.job o w.kinds w.job;
+        passes = other_passes o w.passes;
+        kinds = other_typed o w.kinds;
+        job = other_job o w.kinds w.job;
         size = l.count ∙ w.size;
         trail = rw e w.trail;
         kept = w.kept;
@@ -219,7 +220,7 @@ module _ (Else : State → State → Type 0) (keeps : Keeps Else) (x f : Respons
   own_word {image = image} {vs = vs} (events.answers {s} {j = j} k v e) w = answer_word s image j vs k v w e
   own_word {image = image} {vs = vs} (events.refused {s} {phase = phase} {r = r} k v e) w = refuse_word_lem s image phase vs k v r w e
 
-  pub standing : {s : State} {image : List ℕ} {phase : Phase} {vs : List Given} {book : List Entry} → HostedBy Else x f b s image phase vs book
+  pub standing : {s : State} {image : List ℕ} {phase : Phase} {vs : List Given} {book : List Entry} → Hosted x f b s image phase vs book
       → Standing s image phase vs
   standing (events.opens w) = opened _ w
   standing (events.owns h o) = own_word o (standing h)

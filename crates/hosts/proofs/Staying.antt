@@ -8,7 +8,7 @@ use lib.Dec.{ltb, eqb}
 use borrow.Author.Tests.{eqb-true, ltb-true, lt-ltb}
 use Rattle.laws.specs.Bits.{pick}
 use Rattle.laws.proofs.Bits.{and_left, and_right}
-use Rattle.machine.specs.Refusals.{◌else◌, refuse, machine_check, answer_by}
+use Rattle.machine.specs.Refusals.{◌else◌, refuse, answer_by}
 use Rattle.machine.proofs.Refusals.{else_passed}
 use Rattle.job_plans.specs.declared.Job.{Job}
 use Rattle.job_plans.specs.declared.Held.{Held}
@@ -35,8 +35,7 @@ use Rattle.hosts.specs.Rounds as events
 use Rattle.hosts.specs.Rounds.{Looks, Other}
 use Rattle.hosts.specs.Images.{Typed}
 use Rattle.hosts.proofs.Elsewhere.{one_answer, whole_answers, answers_width}
-use Rattle.hosts.proofs.Typed.{part_under}
-use Rattle.hosts.proofs.Leaving.{accepted_pulse, accepted_step, looks_nothing, other_passes, other_typed}
+use Rattle.hosts.proofs.Leaving.{accepted_pulse, accepted_step}
 use Rattle.hosts.proofs.Images.{job_check}
 use Rattle.hosts.proofs.Jobs.{alone_passed, storable}
 
@@ -228,29 +227,9 @@ looks_job (events.starts {s} {q} o c a) y h = start_held s.machine s.held o q y.
 looks_job (events.writes output e) y h = h
 looks_job (events.loads before after) y h = h
 
-other_width : {s t : State} → Other s t → t.machine.width ≡ s.machine.width
-other_width (events.looks l) = ap (λ (m : Machine). m.width) (looks_nothing l)
-other_width (events.pulses {s} p l a) = ap (λ (m : Machine). m.width) (accepted_pulse s.machine p l a) ∙ pulsed_width s.machine p l
-other_width (events.steps {s} {k} a) = ap (λ (m : Machine). m.width) (accepted_step s a) ∙ pulsed_width s.machine k.panel k.lines
-other_width (events.answers_word {s} y g k v a) = answers_width (one_answer y g k v s.machine a)
-other_width (events.works_round {s} y g vs a) = answers_width (whole_answers y g vs s.machine a)
-other_width (events.in_run q f o) = refl
-
 pub other_job : {s t : State} → Other s t → Typed s → job_check s.machine.width s.held ≡ check.Passed → job_check t.machine.width t.held ≡ check.Passed
 other_job (events.looks l) y h = looks_job l y h
 other_job (events.pulses {s} p l a) y h = rw (accepted_pulse s.machine p l a, pulsed_width s.machine p l) h
 other_job (events.steps {s} {k} a) y h = rw (accepted_step s a, pulsed_width s.machine k.panel k.lines) (gave_held s a h)
 other_job (events.answers_word {s} y g k v a) t h = rw (answers_width (one_answer y g k v s.machine a)) h
 other_job (events.works_round {s} y g vs a) t h = rw (answers_width (whole_answers y g vs s.machine a)) h
-other_job (events.in_run {s} {u} q f o) t h =
-    let v = other_job o (record { responses = part_under q _ s.machine.responses t.responses; job = t.job }) h in
-    rw (other_width o) at v
-
--- what a relation has to keep so that rounds may go by it: accepted calls do
-pub record Keeps (Else : State → State → Type 0) : Type 0 where
-  pub passes : {s t : State} → Else s t → machine_check s.machine ≡ check.Passed → machine_check t.machine ≡ check.Passed
-  pub typed : {s t : State} → Else s t → Typed s → Typed t
-  pub job : {s t : State} → Else s t → Typed s → job_check s.machine.width s.held ≡ check.Passed → job_check t.machine.width t.held ≡ check.Passed
-
-pub others_keep : Keeps Other
-others_keep = record { passes = other_passes; typed = other_typed; job = other_job }

@@ -1,10 +1,9 @@
 -- A pulse leaves responses in the responses, and a job's key, care and c stay what they are, or c is 0: what the types say holds after any calls.
 use Prim.Native.Nat.{ℕ, zero, suc, ◌+◌, ◌^◌, ◌<◌}
 use mathlib.Core.Bool.{Bool, true, false, ◌&&◌}
-use mathlib.Core.List.{List, [], ◌∷◌, ◌++◌}
+use mathlib.Core.List.{List, [], ◌∷◌}
 use native.Mathlib.Omega.{arith}
 use lib.Dec.{ltb, eqb}
-use lib.ListN.{take, drop}
 use Rattle.laws.specs.Bits.{bit, pick}
 use Rattle.laws.specs.Lists.{zip}
 use Rattle.laws.proofs.Bits.{number_lt}
@@ -25,15 +24,13 @@ use Rattle.jobs.specs.Runs.{State, held_after, stepped}
 use Rattle.machine.specs.declared.Check.{Check}
 use Rattle.machine.specs.declared.Check.TheVariants as check
 use Rattle.image_layout.specs.Sizes.{response_size}
-use Rattle.image_layout.specs.Format.{Under, held_jobs, AreResponses, JobFits, JobsFit}
-use Rattle.modules.specs.declared.Run.{Run}
-use Rattle.modules.specs.Runs.{start, most, part, within}
+use Rattle.image_layout.specs.Format.{held_jobs, AreResponses, JobFits, JobsFit}
 use Rattle.hosts.specs.Images.{Typed}
 use Rattle.hosts.proofs.Below.{bit_below, digit_below, flip_below, either_below}
 
 -- ---- responses
 
-pub response_stays : (n : ℕ) (p : Panel) (l : Lines) (k w r : ℕ) → r < 256 ^ response_size → response_after n p l k w r < 256 ^ response_size
+response_stays : (n : ℕ) (p : Panel) (l : Lines) (k w r : ℕ) → r < 256 ^ response_size → response_after n p l k w r < 256 ^ response_size
 unfolding response_after marked flipped
 response_stays n p l k w r h =
     either_below l.search
@@ -41,7 +38,7 @@ response_stays n p l k w r h =
     (either_below (l.complement && selected p.key p.care r)
     (number_lt response_bits _ (λ i g. either_below (eqb (bit p.target i) 1) (flip_below (bit_below r i)) (bit_below r i))) h)
 
-pub zip_responses : (f : ℕ → ℕ → ℕ → ℕ) → ((k w r : ℕ) → r < 256 ^ response_size → f k w r < 256 ^ response_size) → (j : ℕ) (ws rs : List ℕ) → AreResponses rs → AreResponses (zip f j ws rs)
+zip_responses : (f : ℕ → ℕ → ℕ → ℕ) → ((k w r : ℕ) → r < 256 ^ response_size → f k w r < 256 ^ response_size) → (j : ℕ) (ws rs : List ℕ) → AreResponses rs → AreResponses (zip f j ws rs)
 unfolding zip
 zip_responses f h j [] rs b = tt
 zip_responses f h j (w ∷ ws) [] b = tt
@@ -50,32 +47,6 @@ zip_responses f h j (w ∷ ws) (r ∷ rs) b = (h j w r b.0, zip_responses f h (s
 pub pulsed_responses : (m : Machine) (p : Panel) (l : Lines) → AreResponses m.responses → AreResponses (pulsed m p l).responses
 unfolding pulsed
 pulsed_responses m p l h = zip_responses (response_after m.width p l) (response_stays m.width p l) 0 m.words m.responses h
-
--- ---- a part of a list, and one put in its place
-
-under_take : (lim n : ℕ) (xs : List ℕ) → Under lim xs → Under lim (take n xs)
-under_take lim zero xs h = tt
-under_take lim (suc n) [] h = tt
-under_take lim (suc n) (x ∷ xs) h = (h.0, under_take lim n xs h.1)
-
-under_drop : (lim n : ℕ) (xs : List ℕ) → Under lim xs → Under lim (drop n xs)
-under_drop lim zero xs h = h
-under_drop lim (suc n) [] h = tt
-under_drop lim (suc n) (x ∷ xs) h = under_drop lim n xs h.1
-
-under_append : (lim : ℕ) (xs ys : List ℕ) → Under lim xs → Under lim ys → Under lim (xs ++ ys)
-under_append lim [] ys h g = g
-under_append lim (x ∷ xs) ys h g = (h.0, under_append lim xs ys h.1 g)
-
-pub part_under : (q : Run) (lim : ℕ) (xs : List ℕ) → Under lim xs → Under lim (part q xs)
-unfolding part
-part_under q lim xs h = under_take lim (most q) (drop (start q) xs) (under_drop lim (start q) xs h)
-
-pub within_under : (q : Run) (lim : ℕ) (xs ys : List ℕ) → Under lim xs → Under lim ys → Under lim (within q xs ys)
-unfolding within
-within_under q lim xs ys h g =
-    under_append lim (take (start q) xs) _ (under_take lim (start q) xs h)
-    (under_append lim ys _ g (under_drop lim (most q) (drop (start q) xs) (under_drop lim (start q) xs h)))
 
 -- ---- the job
 
@@ -129,7 +100,7 @@ module _ (o : Job) (h : JobFits o) where
   second_fits product = within_fits
   second_fits unknown = tt
 
-  pub next_fits : (n : ℕ) → Fits (next o n)
+  next_fits : (n : ℕ) → Fits (next o n)
   unfolding next
   next_fits n =
       let k = kind_of o.kind in

@@ -1,5 +1,5 @@
 -- Document 01, 'The hand-out round': a host's round, event by event, over machines and stored images.
-use Rattle.std.specs.Prelude.{ℕ, suc, ◌<◌, ◌≡◌, false, List, [], ◌∷◌, ◌++◌, map, length, take, get_or}
+use Rattle.std.specs.Prelude.{ℕ, suc, ◌<◌, ◌≡◌, List, [], ◌∷◌, ◌++◌, map, length, take, get_or}
 use Rattle.laws.specs.Bits.{bit}
 use Rattle.machine.specs.declared.Panel.{Panel}
 use Rattle.machine.specs.declared.Lines.{Lines}
@@ -30,9 +30,6 @@ use Rattle.jobs.specs.Calls.{start_of, step_of}
 use Rattle.jobs.specs.Runs.{State, stepped}
 use Rattle.job_tally.specs.declared.Total.{Total}
 use Rattle.job_tally.specs.Totals.{total_of}
-use Rattle.modules.specs.declared.Run.{Run}
-use Rattle.modules.specs.Runs.{bad_run}
-use Rattle.modules.specs.Calls.{part_state, within_state}
 use Rattle.image.specs.declared.Wrote.{Wrote}
 use Rattle.image.specs.Calls.{write_of}
 use Rattle.image_layout.specs.Format.{JobFits}
@@ -71,8 +68,6 @@ pub data Other : State → State → Type 0 where
       → Other s (record { machine = after_answer y g k v s.machine; held = s.held })
   works_round : {s : State} {done faulty : ℕ} (y g : ResponseBit) (vs : List ℕ) → report_of y g vs s.machine ≡ report.Ended done faulty
       → Other s (record { machine = after_round y g vs s.machine; held = s.held })
-  -- any of them in a run of modules (02 f): the call on the run's words, "and every other word and response stays"
-  in_run : {s u : State} (q : Run) → bad_run (length s.machine.words) q ≡ false → Other (part_state q s) u → Other s (within_state q s u)
 
 -- bits X and F of each response are as they were
 pub record Leaves (x f : ResponseBit) (m n : Machine) : Type 0 where
@@ -145,24 +140,20 @@ pub data Own (x f : ResponseBit) (vs : List Given) : State → Phase → List En
   refused : {s : State} {book : List Entry} {phase : Phase} {r : Refusal} (k : WordSlice) (v : Verdict) → reply_of x f k s.machine ≡ reply.Refused r
       → Own x f vs s phase book (record { machine = after_answer x f k v s.machine; held = s.held }) phase book
 
--- `HostedBy Else x f b s image phase vs book`: a round over X and F that began at b; s stands now, `image` is the last stored, and vs are the
--- answers that are stored; between the round's own calls the machine changes as `Else` says.
+-- `Hosted x f b s image phase vs book`: a round over X and F that began at b; s stands now, `image` is the last stored, and vs are the answers
+-- that are stored.
 -- "The host shows before each answer, again after a stop .. and stores an image before the first show and after each answer, before the next show"
-pub data HostedBy (Else : State → State → Type 0) (x f : ResponseBit) (b : State) : State → List ℕ → Phase → List Given → List Entry → Type 0 where
-  opens : {output image : List ℕ} → Stores output b image → HostedBy Else x f b b image ready [] []
-  owns : {s t : State} {image : List ℕ} {phase next : Phase} {vs : List Given} {book new : List Entry} → HostedBy Else x f b s image phase vs book
-      → Own x f vs s phase book t next new → HostedBy Else x f b t image next vs new
-  stores : {s : State} {output image new : List ℕ} {phase : Phase} {vs : List Given} {book : List Entry} → HostedBy Else x f b s image phase vs book
-      → Stores output s new → HostedBy Else x f b s new (settled phase) (vs ++ pending phase) book
-  stops : {s t : State} {words responses image : List ℕ} {phase : Phase} {vs : List Given} {book : List Entry} → HostedBy Else x f b s image phase vs book
+pub data Hosted (x f : ResponseBit) (b : State) : State → List ℕ → Phase → List Given → List Entry → Type 0 where
+  opens : {output image : List ℕ} → Stores output b image → Hosted x f b b image ready [] []
+  owns : {s t : State} {image : List ℕ} {phase next : Phase} {vs : List Given} {book new : List Entry} → Hosted x f b s image phase vs book
+      → Own x f vs s phase book t next new → Hosted x f b t image next vs new
+  stores : {s : State} {output image new : List ℕ} {phase : Phase} {vs : List Given} {book : List Entry} → Hosted x f b s image phase vs book
+      → Stores output s new → Hosted x f b s new (settled phase) (vs ++ pending phase) book
+  stops : {s t : State} {words responses image : List ℕ} {phase : Phase} {vs : List Given} {book : List Entry} → Hosted x f b s image phase vs book
       → Resumes words responses image t
-      → HostedBy Else x f b t image ready vs (stopped ∷ book)
-  others : {s t : State} {image : List ℕ} {phase : Phase} {vs : List Given} {book : List Entry} → HostedBy Else x f b s image phase vs book → Else s t
-      → Leaves x f s.machine t.machine → HostedBy Else x f b t image phase vs book
-
--- the host's round: "the machine otherwise changes only by accepted calls"
-abbrev pub Hosted : ResponseBit → ResponseBit → State → State → List ℕ → Phase → List Given → List Entry → Type 0
-Hosted = HostedBy Other
+      → Hosted x f b t image ready vs (stopped ∷ book)
+  others : {s t : State} {image : List ℕ} {phase : Phase} {vs : List Given} {book : List Entry} → Hosted x f b s image phase vs book → Other s t
+      → Leaves x f s.machine t.machine → Hosted x f b t image phase vs book
 
 -- `Both x f y g b c s image phase vs book turn us log`: two rounds side by side, their calls in any order. The first, over X and F, began at b; at any
 -- point of it, c, the second began, over Y and G. From there on an image that is stored is stored for both, and a stop stops both

@@ -259,7 +259,7 @@ pub fn none_held() -> Refusal
     Refusal::WrongJob
 }
 
-pub fn check_step_held(width: u32, held: Held) -> Check
+fn check_step_held(width: u32, held: Held) -> Check
     ensures { result ≡ places.step_held_check width held }
 {
     match held {

@@ -1,16 +1,19 @@
 -- Document 01, 'Jobs': the command at each place. "Registers not mentioned are 0 in its commands."
-use Rattle.std.specs.Prelude.{ℕ, zero, suc, ◌+◌, ◌-◌, ◌*◌, ◌%◌, ◌^◌, true, false, [], ◌∷◌, eqb}
+use Rattle.std.specs.Prelude.{ℕ, zero, suc, ◌+◌, ◌-◌, ◌*◌, ◌%◌, ◌^◌, Bool, true, false, [], ◌∷◌, eqb}
 use Rattle.std.specs.Int.Bits.{bit_or}
 use Rattle.laws.specs.Bits.{pick}
 use Rattle.machine.specs.declared.Lines.{Lines}
 use Rattle.machine.specs.declared.ResponseBit.{ResponseBit}
 use Rattle.machine.specs.Panel.{panel_of}
-use Rattle.machine.specs.Pulse.{raising}
 use Rattle.job_plans.specs.declared.Span.{Span}
 use Rattle.job_plans.specs.declared.Job.{Job}
 use Rattle.job_plans.specs.declared.Command.{Command}
 use Rattle.job_plans.specs.Fields.{Kind, greatest, smallest, scaledAdd, product, unknown, kind_of, by_kind}
 use Rattle.job_plans.specs.Places.{no_bit}
+
+-- the lines of a command: search s, multiadd m, and no other
+abbrev pub raising : Bool → Bool → Lines
+raising s m = record { search = s; read = false; write = false; add = false; multiwrite = false; multiadd = m; complement = false }
 
 -- a command: its lines, then COMP, SDR, SC2, MOR, key, care and target; SC1, the address and SC3 are 0 in every one. 02 c: "Jobs set it to 0."
 abbrev pub order : Lines → ℕ → ℕ → ℕ → ℕ → ℕ → ℕ → ℕ → Command

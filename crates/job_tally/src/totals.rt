@@ -138,7 +138,7 @@ fn is_first(held: Held) -> bool
     }
 }
 
-pub fn check_first(held: Held) -> Check
+fn check_first(held: Held) -> Check
     ensures { result ≡ first_check held }
 {
     refuse(Refusal::WrongJob, !is_first(held))

@@ -9,8 +9,7 @@ use Rattle.machine.specs.declared.ResponseBit.{ResponseBit}
 use Rattle.job_plans.specs.declared.Span.{Span}
 use Rattle.job_plans.specs.declared.Job.{Job}
 use Rattle.job_plans.specs.Fields.{kind_of}
-use Rattle.machine.specs.Pulse.{raising}
-use Rattle.job_plans.specs.Commands.{bit_of, opening, trial, second, command, order, plus}
+use Rattle.job_plans.specs.Commands.{bit_of, opening, trial, second, command, order, plus, raising}
 use Rattle.job_plans.proofs.ByKind.{picked, passed}
 use Rattle.job_plans.proofs.Shifts.{run}
 

@@ -4,7 +4,7 @@ use Rattle.std.specs.Prelude.{ℕ, Bool, true, false, []}
 use Rattle.machine.specs.declared.Check.{Check}
 use Rattle.machine.specs.declared.Refusal.TheVariants.{WrongJob}
 use Rattle.machine.specs.Machine.{Machine}
-use Rattle.machine.specs.Pulse.{raising, count_of, pulsed}
+use Rattle.machine.specs.Pulse.{count_of, pulsed}
 use Rattle.machine.specs.Panel.{panel_of}
 use Rattle.machine.specs.Refusals.{◌else◌, refuse, machine_check, answer_by, number_of, also_answers}
 use Rattle.job_plans.specs.declared.Job.{Job}
@@ -18,7 +18,7 @@ use Rattle.jobs.specs.declared.Stepped.TheVariants as stepped
 use Rattle.job_plans.specs.Fields.{used_check}
 use Rattle.job_plans.specs.Places.{none_held, first, next}
 unfoldable pub use Rattle.job_plans.specs.Places.{step_check}
-use Rattle.job_plans.specs.Commands.{command}
+use Rattle.job_plans.specs.Commands.{raising, command}
 
 -- ---- start
 

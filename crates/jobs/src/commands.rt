@@ -67,7 +67,15 @@ fn look(key: Response, care: Response, t: ResponseBit, mask: u64, comp: u64) -> 
     panel.target = response_bit(t);
     Command {
         panel,
-        lines: Lines::raising(true, false),
+        lines: Lines {
+            search: true,
+            read: false,
+            write: false,
+            add: false,
+            multiwrite: false,
+            multiadd: false,
+            complement: false,
+        },
     }
 }
 
@@ -90,7 +98,15 @@ fn plus(y: ResponseBit, s: Span, v: u64) -> Command
     panel.care = under;
     Command {
         panel,
-        lines: Lines::raising(false, true),
+        lines: Lines {
+            search: false,
+            read: false,
+            write: false,
+            add: false,
+            multiwrite: false,
+            multiadd: true,
+            complement: false,
+        },
     }
 }
 

@@ -18,7 +18,7 @@ use Rattle.machine.specs.declared.Found.{Found}
 use Rattle.machine.specs.declared.Found.TheVariants.{At, Nothing}
 use Rattle.machine.specs.declared.Lines.{Lines}
 use Rattle.machine.specs.declared.Refusal.{Refusal}
-use Rattle.machine.specs.declared.Refusal.TheVariants.{Size, Width, WordTooWide, PanelTooWide, TwoCodes, WrongLines, NoSuchRun, NoSuchWord, EmptySyllable, BeyondWord, Overlap, NoSuchBit, BitsClash, WrongJob, Malformed, NoRoom, NotShown}
+use Rattle.machine.specs.declared.Refusal.TheVariants.{Size, Width, WordTooWide, PanelTooWide, TwoCodes, WrongLines, NoSuchWord, EmptySyllable, BeyondWord, Overlap, NoSuchBit, BitsClash, WrongJob, Malformed, NoRoom, NotShown}
 use Rattle.machine.specs.declared.Check.{Check}
 use Rattle.machine.specs.declared.Check.TheVariants.{Passed, Refused}
 use Rattle.machine.specs.Resolution.{lowest}
@@ -83,7 +83,6 @@ listed (WordTooWide k) = omega arith
 listed PanelTooWide = omega arith
 listed TwoCodes = omega arith
 listed WrongLines = omega arith
-listed NoSuchRun = omega arith
 listed NoSuchWord = omega arith
 listed (EmptySyllable s) = omega arith
 listed (BeyondWord s) = omega arith

@@ -8,10 +8,6 @@ use Rattle.machine.specs.declared.Lines.{Lines}
 use Rattle.machine.specs.Machine.{Machine, machine, response_bits, Syllable, syllables, over, selected}
 use Rattle.machine.specs.Search.{matches, marked}
 
--- lines search and multiadd, raised or not, and no other
-abbrev pub raising : Bool → Bool → Lines
-raising s a = record { search = s; read = false; write = false; add = false; multiwrite = false; multiadd = a; complement = false }
-
 -- "In the addressed word, or in all selected words, each bit under a one of MOR takes COMP's bit."
 unfoldable pub written : ℕ → Panel → ℕ → ℕ
 written n p w = number n (under p.mor (bit p.comp) (bit w))

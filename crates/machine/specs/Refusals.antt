@@ -1,5 +1,5 @@
--- Document 01, 'Numbers given when a call is turned down', with 4 and 5 as document 02, request c, has them, 20 to 25 of its request d and the number 13
--- of its request f: the conditions of 1 to 7 and of response bits, the numbers and their order, and what a pulse answers and leaves.
+-- Document 01, 'Numbers given when a call is turned down', with 4 and 5 as document 02, request c, has them and 20 to 25 of its request d: the
+-- conditions of 1 to 7 and of response bits, the numbers and their order, and what a pulse answers and leaves.
 use Rattle.std.specs.Prelude.{ℕ, ◌+◌, ◌^◌, Bool, true, false, not, ◌&&◌, ◌||◌, List, [], ◌∷◌, ltb, leb, eqb, length}
 use Rattle.laws.specs.Bits.{bit, digit, pick}
 use Rattle.laws.specs.Lists.{all}
@@ -11,7 +11,7 @@ use Rattle.machine.specs.declared.Found.TheVariants.{At, Nothing}
 use Rattle.machine.specs.declared.Syllable.{Syllable}
 use Rattle.machine.specs.declared.Syllable.TheVariants.{A, B, P}
 use Rattle.machine.specs.declared.Refusal.{Refusal}
-use Rattle.machine.specs.declared.Refusal.TheVariants.{Size, Width, WordTooWide, PanelTooWide, TwoCodes, WrongLines, NoSuchRun, NoSuchWord, EmptySyllable, BeyondWord, Overlap, NoSuchBit, BitsClash, WrongJob, Malformed, NoRoom, NotShown}
+use Rattle.machine.specs.declared.Refusal.TheVariants.{Size, Width, WordTooWide, PanelTooWide, TwoCodes, WrongLines, NoSuchWord, EmptySyllable, BeyondWord, Overlap, NoSuchBit, BitsClash, WrongJob, Malformed, NoRoom, NotShown}
 use Rattle.machine.specs.declared.Check.{Check}
 use Rattle.machine.specs.declared.Check.TheVariants as check
 use Rattle.machine.specs.declared.Answer.{Answer}
@@ -85,21 +85,16 @@ machine_check m = refuse Size (bad_size (length m.words) (length m.responses))
     else refuse Width (bad_width m.width)
     else refuse_word (lowest (too_wide m.width) 0 m.words)
 
--- 1 to 6, and then the rest of a call's checks
-abbrev pub up_to_lines : Machine → Panel → Lines → Check → Check
-up_to_lines m p l rest = machine_check m
-    else refuse PanelTooWide (bad_panel m.width p)
-    else refuse TwoCodes (bad_codes m.width p l)
-    else refuse WrongLines (bad_lines l)
-    else rest
+-- 6 and 7
+abbrev pub command_check : ℕ → Panel → Lines → Check
+command_check n p l = refuse WrongLines (bad_lines l) else refuse NoSuchWord (bad_address n p l)
 
 -- "A pulse is checked for 1 to 7"
 unfoldable pub pulse_check : Machine → Panel → Lines → Check
-pulse_check m p l = up_to_lines m p l (refuse NoSuchWord (bad_address (length m.words) p l))
-
--- 6 and 7, as one function judges them
-abbrev pub command_check : ℕ → Panel → Lines → Check
-command_check n p l = refuse WrongLines (bad_lines l) else refuse NoSuchWord (bad_address n p l)
+pulse_check m p l = machine_check m
+    else refuse PanelTooWide (bad_panel m.width p)
+    else refuse TwoCodes (bad_codes m.width p l)
+    else command_check (length m.words) p l
 
 -- ---- 02 d, of response bits: what jobs and rounds share. "Round calls give 23 and 24 too."
 
@@ -152,7 +147,6 @@ tells (WordTooWide k) = (3, k.0)
 tells PanelTooWide = (4, 0)
 tells TwoCodes = (5, 0)
 tells WrongLines = (6, 0)
-tells NoSuchRun = (13, 0)
 tells NoSuchWord = (7, 0)
 tells (EmptySyllable s) = (20, value_of s)
 tells (BeyondWord s) = (21, value_of s)
@@ -170,10 +164,10 @@ number_of r = (tells r).0
 abbrev pub also_answers : Refusal → ℕ
 also_answers r = (tells r).1
 
--- 02 d: "8 is retired and 20 to 25 stand in its place in the order, lowest first"; 02 f: "13 .. after 6; 7 then". The numbers as they are checked, one
--- after the other; 12 is the array's own
+-- 02 d: "8 is retired and 20 to 25 stand in its place in the order, lowest first": the numbers as they are checked, one after the other; 12 is the
+-- array's own
 abbrev pub numbers : List ℕ
-numbers = 1 ∷ 2 ∷ 3 ∷ 4 ∷ 5 ∷ 6 ∷ 13 ∷ 7 ∷ 20 ∷ 21 ∷ 22 ∷ 23 ∷ 24 ∷ 25 ∷ 9 ∷ 10 ∷ 11 ∷ []
+numbers = 1 ∷ 2 ∷ 3 ∷ 4 ∷ 5 ∷ 6 ∷ 7 ∷ 20 ∷ 21 ∷ 22 ∷ 23 ∷ 24 ∷ 25 ∷ 9 ∷ 10 ∷ 11 ∷ []
 
 abbrev pub turn_in : List ℕ → ℕ → ℕ
 turn_in [] k = 0

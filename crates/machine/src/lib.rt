@@ -4,7 +4,6 @@ ghost use Rattle.std.specs.Prelude.{◌≡◌, [], ◌-◌, ◌%◌, ◌^◌, �
 ghost use Rattle.laws.specs.Bits.{digit};
 ghost use Rattle.machine.specs.Panel.{registers, panel_of, load};
 ghost use Rattle.machine.specs.Machine.{machine, response_bits, selected};
-ghost use Rattle.machine.specs.Pulse.{raising};
 ghost use Rattle.machine.specs.Resolution.{lowest};
 ghost use Rattle.machine.specs.Words.{union};
 ghost use Rattle.machine.specs.Refusals.{bad_size, bad_width, too_wide, bad_panel, bad_lines, bad_address, in_care, ◌else◌, refuse, refuse_word, machine_check, command_check, bit_check, apart_check, care_check, value_of, number_of, also_answers, turn};
@@ -144,23 +143,6 @@ pub struct Lines {
     pub complement: bool,
 }
 
-impl Lines {
-    // A search, a multiadd, or both, and no other line: all that a job's commands and the explainer raise.
-    pub fn raising(search: bool, multiadd: bool) -> Lines
-        ensures { result ≡ raising search multiadd }
-    {
-        Lines {
-            search,
-            read: false,
-            write: false,
-            add: false,
-            multiwrite: false,
-            multiadd,
-            complement: false,
-        }
-    }
-}
-
 // The code of a bit in a search.
 #[derive(Drop)]
 pub enum Code {
@@ -202,7 +184,6 @@ pub enum Refusal {
     PanelTooWide,
     TwoCodes,
     WrongLines,
-    NoSuchRun,
     NoSuchWord,
     EmptySyllable(Syllable),
     BeyondWord(Syllable),
@@ -215,7 +196,7 @@ pub enum Refusal {
     NotShown,
 }
 
-// Document 01's number of each; 13 is 02 f's, 20 to 25 are 02 d's.
+// Document 01's number of each; 20 to 25 are 02 d's.
 pub fn number_of(why: Refusal) -> u64
     ensures { (result ≡ number_of why) × (result < 256) }
 {
@@ -226,7 +207,6 @@ pub fn number_of(why: Refusal) -> u64
         Refusal::PanelTooWide => 4,
         Refusal::TwoCodes => 5,
         Refusal::WrongLines => 6,
-        Refusal::NoSuchRun => 13,
         Refusal::NoSuchWord => 7,
         Refusal::EmptySyllable(_) => 20,
         Refusal::BeyondWord(_) => 21,
@@ -261,7 +241,6 @@ pub fn also_of(why: Refusal) -> u64
         Refusal::PanelTooWide => 0,
         Refusal::TwoCodes => 0,
         Refusal::WrongLines => 0,
-        Refusal::NoSuchRun => 0,
         Refusal::NoSuchWord => 0,
         Refusal::EmptySyllable(syllable) => value_of(syllable),
         Refusal::BeyondWord(syllable) => value_of(syllable),
@@ -275,7 +254,7 @@ pub fn also_of(why: Refusal) -> u64
     }
 }
 
-// When its number's turn is: 02 d, "20 to 25 stand in its place in the order"; 02 f, "13 .. after 6".
+// When its number's turn is: "20 to 25 stand in its place in the order".
 pub fn turn_of(why: Refusal) -> u64
     ensures { result ≡ turn (number_of why) }
 {
@@ -286,17 +265,16 @@ pub fn turn_of(why: Refusal) -> u64
         Refusal::PanelTooWide => 3,
         Refusal::TwoCodes => 4,
         Refusal::WrongLines => 5,
-        Refusal::NoSuchRun => 6,
-        Refusal::NoSuchWord => 7,
-        Refusal::EmptySyllable(_) => 8,
-        Refusal::BeyondWord(_) => 9,
-        Refusal::Overlap(_) => 10,
-        Refusal::NoSuchBit => 11,
-        Refusal::BitsClash => 12,
-        Refusal::WrongJob => 13,
-        Refusal::Malformed(_) => 14,
-        Refusal::NoRoom => 15,
-        Refusal::NotShown => 16,
+        Refusal::NoSuchWord => 6,
+        Refusal::EmptySyllable(_) => 7,
+        Refusal::BeyondWord(_) => 8,
+        Refusal::Overlap(_) => 9,
+        Refusal::NoSuchBit => 10,
+        Refusal::BitsClash => 11,
+        Refusal::WrongJob => 12,
+        Refusal::Malformed(_) => 13,
+        Refusal::NoRoom => 14,
+        Refusal::NotShown => 15,
     }
 }
 

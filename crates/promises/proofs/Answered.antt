@@ -98,7 +98,7 @@ abbrev pub tells_read : Read → ℕ × ℕ
 tells_read a = ((told_read a).refusal, (told_read a).also)
 
 -- any answer by a check: a refusal's own number, and 0 for what is answered where the check passes
-pub by_check : {A : Type 0} (says : A → ℕ × ℕ) (turned : Refusal → A) → ((r : Refusal) → says (turned r) ≡ tells r) → (c : Check) (done : A)
+by_check : {A : Type 0} (says : A → ℕ × ℕ) (turned : Refusal → A) → ((r : Refusal) → says (turned r) ≡ tells r) → (c : Check) (done : A)
     → says done ≡ (0, 0) → says (answer_by c turned done) ≡ given c
 by_check says turned e Passed done h = h
 by_check says turned e (Refused r) done h = e r
@@ -111,7 +111,7 @@ pub explain_tells : (m : Machine) (p : Panel) (k : WordSlice) → tells_explaine
 unfolding explained
 explain_tells m p k = by_check tells_explained explains.Refused (λ r. refl) (explain_check m p k) _ (reason_answers _ p _ _) ∙ explain_given m p k
 
-pub found_none : (w : Found) → tells_resolved (as_resolved w) ≡ (0, 0)
+found_none : (w : Found) → tells_resolved (as_resolved w) ≡ (0, 0)
 found_none (At k) = refl
 found_none Nothing = refl
 
@@ -137,7 +137,7 @@ unfolding start_of
 start_tells m h o = by_check tells_started started.Refused (λ r. refl) (start_check m h o) _ refl ∙ start_given m h o
 
 -- a step while no job is held is turned down before anything is given
-pub step_by : (m : Machine) (h : Held) (c : Check) → tells_stepped (answer_by (c else step_held_check m.width h) stepped.Refused (gave m h)) ≡ given (c else step_held_check m.width h)
+step_by : (m : Machine) (h : Held) (c : Check) → tells_stepped (answer_by (c else step_held_check m.width h) stepped.Refused (gave m h)) ≡ given (c else step_held_check m.width h)
 step_by m held.Nothing Passed = refl
 step_by m held.Nothing (Refused r) = refl
 step_by m (Holds o) c = by_check tells_stepped stepped.Refused (λ r. refl) (c else step_held_check m.width (Holds o)) _ refl
@@ -165,11 +165,11 @@ passes Passed h = refl
 passes (Refused r) h = absurd (some_number r h)
 
 -- of any check whose number a table says
-pub accepted : (c : Check) (es : List Entry) → given c ≡ first es → (first es).0 ≡ 0 → c ≡ Passed
+accepted : (c : Check) (es : List Entry) → given c ≡ first es → (first es).0 ≡ 0 → c ≡ Passed
 accepted c es g h = passes c (ap (λ (x : ℕ × ℕ). x.0) g ∙ h)
 
 -- others is a refusal's answer, by its number and what it also answers
-pub refused : {A B : Type 0} (says : A → B) (turned : Refusal → A) (others : ℕ → ℕ → B) → ((r : Refusal) → says (turned r) ≡ others (tells r).0 (tells r).1)
+refused : {A B : Type 0} (says : A → B) (turned : Refusal → A) (others : ℕ → ℕ → B) → ((r : Refusal) → says (turned r) ≡ others (tells r).0 (tells r).1)
     → (c : Check) (es : List Entry) (done : A) → given c ≡ first es → ((first es).0 ≡ 0 → ⊥) → says (answer_by c turned done) ≡ others (first es).0 (first es).1
 refused says turned others e Passed es done g h = absurd (h (ap (λ (x : ℕ × ℕ). x.0) (sym g)))
 refused says turned others e (Refused r) es done g h = e r ∙ ap (λ (x : ℕ × ℕ). others x.0 x.1) g
@@ -200,7 +200,7 @@ abbrev pub found_in : Found → resolver.Told
 found_in (At k) = record { refusal = 0; also = 0; found = 1; word = k.0 }
 found_in Nothing = record { refusal = 0; also = 0; found = 0; word = 0 }
 
-pub found_told : (w : Found) → resolver.told (as_resolved w) ≡ found_in w
+found_told : (w : Found) → resolver.told (as_resolved w) ≡ found_in w
 found_told (At k) = refl
 found_told Nothing = refl
 
@@ -299,7 +299,7 @@ read_refused bs words responses =
 
 -- ---- "Nothing lent changes": of every call that lends anything by &mut
 
-pub kept : {A : Type 0} (c : Check) (new old : A) → ((given c).0 ≡ 0 → ⊥) → change_by c new old ≡ old
+kept : {A : Type 0} (c : Check) (new old : A) → ((given c).0 ≡ 0 → ⊥) → change_by c new old ≡ old
 kept Passed new old h = absurd (h refl)
 kept (Refused r) new old h = refl
 

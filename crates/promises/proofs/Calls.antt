@@ -168,21 +168,21 @@ pub record Leaves {A : Type 0} (refusal : ℕ) (before left now : A) : Type 0 wh
   pub leaves : now ≡ left
   pub unchanged : (refusal ≡ 0 → ⊥) → now ≡ before
 
-pub answers_by : {R : Type 0} (tell : R → ℕ × ℕ) {table : List Entry} (check : Check) (says : R) {done : R} (r : R)
+answers_by : {R : Type 0} (tell : R → ℕ × ℕ) {table : List Entry} (check : Check) (says : R) {done : R} (r : R)
     → tell says ≡ first table → given check ≡ first table → (check ≡ Passed → says ≡ done) → r ≡ says → Answers tell table check says done r
 answers_by tell check says r t g d e =
     let p : (tell r).0 ≡ 0 → check ≡ Passed = λ z. passes check (ap (λ (x : ℕ × ℕ). x.0) (g ∙ sym t ∙ sym (ap tell e)) ∙ z) in
     record { answers = e; number = ap tell e ∙ t; accepted = λ z. (p z, e ∙ d (p z)) }
 
 -- what a call answers where its check is passed
-pub taken : {R : Type 0} (turned : Refusal → R) (done : R) (c : Check) → c ≡ Passed → answer_by c turned done ≡ done
+taken : {R : Type 0} (turned : Refusal → R) (done : R) (c : Check) → c ≡ Passed → answer_by c turned done ≡ done
 taken turned done c e = ap (λ (d : Check). answer_by d turned done) e
 
-pub leaves_by : {A : Type 0} {before left now : A} {n k : ℕ × ℕ} → n ≡ k → ((k.0 ≡ 0 → ⊥) → left ≡ before) → now ≡ left → Leaves n.0 before left now
+leaves_by : {A : Type 0} {before left now : A} {n k : ℕ × ℕ} → n ≡ k → ((k.0 ≡ 0 → ⊥) → left ≡ before) → now ≡ left → Leaves n.0 before left now
 leaves_by e u h = record { leaves = h; unchanged = λ z. h ∙ u (λ g. z (ap (λ (x : ℕ × ℕ). x.0) e ∙ g)) }
 
 -- the machine that stands in the buffers
-pub whole : (n : ℕ) (ws rs : List ℕ) (m : Machine) → m.width ≡ n → ws ≡ m.words → rs ≡ m.responses → machine n ws rs ≡ m
+whole : (n : ℕ) (ws rs : List ℕ) (m : Machine) → m.width ≡ n → ws ≡ m.words → rs ≡ m.responses → machine n ws rs ≡ m
 whole n ws rs m e f g = rw (← e, f, g)
 
 -- ---- the two machines: an outcome of a pulse on m with panel p and lines l, the answer r and the machine n afterwards
@@ -293,7 +293,7 @@ show_meets κs a r s h =
     answers_by tells_resolved (show_check x m) (show_of x m) r (show_tells x m) (show_given x m) (show_done x m) h
 
 -- an answer and a round change nothing but responses
-pub responses_only : (c : Check) (m : Machine) (qs rs : List ℕ) → rs ≡ (change_by c (machine m.width m.words qs) m).responses
+responses_only : (c : Check) (m : Machine) (qs rs : List ℕ) → rs ≡ (change_by c (machine m.width m.words qs) m).responses
     → machine m.width m.words rs ≡ change_by c (machine m.width m.words qs) m
 responses_only Passed m qs rs e = ap (machine m.width m.words) e
 responses_only (Refused why) m qs rs e = ap (machine m.width m.words) e
@@ -369,11 +369,14 @@ step_width m h = go (step_of m h)
     go (gives.Gave k c g) = refl
     go (gives.Refused why) = refl
 
-pub held_still : (q : Stepped) (h : Held) → ((tells_stepped q).0 ≡ 0 → ⊥) → held_after q h ≡ h
-held_still (gives.Gave k c g) h z = absurd (z refl)
-held_still (gives.Refused why) h z = refl
+held_still : (m : Machine) (h : Held) → ((tells_stepped (step_of m h)).0 ≡ 0 → ⊥) → held_after (step_of m h) h ≡ h
+held_still m h = go (step_of m h)
+  where
+    go : (q : Stepped) → ((tells_stepped q).0 ≡ 0 → ⊥) → held_after q h ≡ h
+    go (gives.Gave k c g) z = absurd (z refl)
+    go (gives.Refused why) z = refl
 
-pub both : (m n : Machine) (h g : Held) → m ≡ n → h ≡ g → ◌≡◌ {A = State} (record { machine = m; held = h }) (record { machine = n; held = g })
+both : (m n : Machine) (h g : Held) → m ≡ n → h ≡ g → ◌≡◌ {A = State} (record { machine = m; held = h }) (record { machine = n; held = g })
 both m n h g e f = rw (e, f)
 
 pub step_meets : (κs : Lfts 2) (a : ArgsD step.signature κs) (r : ResD step.signature κs) (s : AtExit (ended_of 2 step-kinds.ps step-kinds.r) κs)
@@ -390,7 +393,7 @@ step_meets κs a r s h =
     let b = answers_by tells_stepped (step_check m held) (step_of m held) r (step_tells m held) (step_given m held) (step_done m held) h.0 in
     let t = step_tells m held in (
       b,
-      leaves_by b.number (λ z. both (after_step m held) m _ held (step_unchanged m held z) (held_still (step_of m held) held (λ y. z (sym (ap (λ (x : ℕ × ℕ). x.0) t) ∙ y))))
+      leaves_by b.number (λ z. both (after_step m held) m _ held (step_unchanged m held z) (held_still m held (λ y. z (sym (ap (λ (x : ℕ × ℕ). x.0) t) ∙ y))))
           (both (machine m.width s.0.now s.1.0.now) (after_step m held) _ _ (whole m.width s.0.now s.1.0.now (after_step m held) (step_width m held) h.1.0 h.1.1) (ap (λ (q : Stepped). held_after q held) h.0)),
     )
 

@@ -202,7 +202,7 @@ given (Refused r) = tells r
 -- ---- "given exactly then": each call's refusal is the first condition of its table that holds, and there is none where none does
 
 -- a check and its part of a table, whatever follows both
-pub record Tabled (c : Check) (table : List Entry → List Entry) : Type 0 where
+record Tabled (c : Check) (table : List Entry → List Entry) : Type 0 where
   pub before : (d : Check) (es : List Entry) → given d ≡ first es → given (c else d) ≡ first (table es)
 
 machine_first : (b₁ b₂ : Bool) (f : Found) (c : Check) (es : List Entry) → given c ≡ first es
@@ -214,7 +214,7 @@ machine_first false false (At k) c es h = refl
 machine_first false false Nothing c es h = h
 
 -- 1 to 3
-pub of_machine : (m : Machine) → Tabled (machine_check m) (machine_table m)
+of_machine : (m : Machine) → Tabled (machine_check m) (machine_table m)
 unfolding machine_check
 of_machine m =
     record {
@@ -222,19 +222,19 @@ of_machine m =
     }
 
 -- one entry: a refusal by its condition
-pub leaf : (r : Refusal) (b : Bool) → Tabled (refuse r b) (λ es. record { number = (tells r).0; also = (tells r).1; holds = b } ∷ es)
+leaf : (r : Refusal) (b : Bool) → Tabled (refuse r b) (λ es. record { number = (tells r).0; also = (tells r).1; holds = b } ∷ es)
 unfolding first
 leaf r true = record { before = λ d es e. refl }
 leaf r false = record { before = λ d es e. e }
 
 infixr 20 ◌then◌
 -- one after the other
-pub ◌then◌ : {c d : Check} {s t : List Entry → List Entry} → Tabled c s → Tabled d t → Tabled (c else d) (λ es. s (t es))
+◌then◌ : {c d : Check} {s t : List Entry → List Entry} → Tabled c s → Tabled d t → Tabled (c else d) (λ es. s (t es))
 ◌then◌ {c} {d} {s} {t} f g =
     record { before = λ e es h. ap given (else_assoc c d e) ∙ f.before (d else e) (t es) (g.before e es h) }
 
 -- with nothing after it
-pub whole : {c : Check} {t : List Entry → List Entry} → Tabled c t → given c ≡ first (t [])
+whole : {c : Check} {t : List Entry → List Entry} → Tabled c t → given c ≡ first (t [])
 unfolding first
 whole {c} f = sym (passed_else c) ∙ f.before Passed [] refl
   where
@@ -242,13 +242,13 @@ whole {c} f = sym (passed_else c) ∙ f.before Passed [] refl
     passed_else Passed = refl
     passed_else (Refused r) = refl
 
-pub four : (n : ℕ) (p : Panel) → Tabled (refuse PanelTooWide (bad_panel n p)) (λ es. entry 4 (bad_panel n p) ∷ es)
+four : (n : ℕ) (p : Panel) → Tabled (refuse PanelTooWide (bad_panel n p)) (λ es. entry 4 (bad_panel n p) ∷ es)
 four n p = leaf PanelTooWide (bad_panel n p)
 
-pub five : (n : ℕ) (p : Panel) (l : Lines) → Tabled (refuse TwoCodes (bad_codes n p l)) (λ es. entry 5 (bad_codes n p l) ∷ es)
+five : (n : ℕ) (p : Panel) (l : Lines) → Tabled (refuse TwoCodes (bad_codes n p l)) (λ es. entry 5 (bad_codes n p l) ∷ es)
 five n p l = leaf TwoCodes (bad_codes n p l)
 
-pub six : (l : Lines) → Tabled (refuse WrongLines (bad_lines l)) (λ es. entry 6 (bad_lines l) ∷ es)
+six : (l : Lines) → Tabled (refuse WrongLines (bad_lines l)) (λ es. entry 6 (bad_lines l) ∷ es)
 six l = leaf WrongLines (bad_lines l)
 
 seven : (n : ℕ) (p : Panel) (l : Lines) → Tabled (refuse NoSuchWord (bad_address n p l)) (λ es. entry 7 (bad_address n p l) ∷ es)
@@ -257,12 +257,12 @@ seven n p l = leaf NoSuchWord (bad_address n p l)
 ten : (b : Bool) → Tabled (refuse NoRoom b) (λ es. entry 10 b ∷ es)
 ten = leaf NoRoom
 
-pub eleven : (b : Bool) → Tabled (refuse NotShown b) (λ es. entry 11 b ∷ es)
+eleven : (b : Bool) → Tabled (refuse NotShown b) (λ es. entry 11 b ∷ es)
 eleven = leaf NotShown
 
 -- ---- 20 to 25, leaf by leaf
 
-pub bit_leaf : (x : ResponseBit) → Tabled (bit_check x) (λ es. above_last x ∷ es)
+bit_leaf : (x : ResponseBit) → Tabled (bit_check x) (λ es. above_last x ∷ es)
 bit_leaf x = leaf NoSuchBit (leb response_bits x.0)
 
 apart_leaf : (x y : ResponseBit) → Tabled (apart_check x y) (λ es. alike x y ∷ es)
@@ -289,10 +289,10 @@ place_leaf o = leaf WrongJob (not (in_table o))
 free_leaf : (h : Held) → Tabled (free_check h) (λ es. wrong_job (is_held h) ∷ es)
 free_leaf h = leaf WrongJob (is_held h)
 
-pub first_leaf : (h : Held) → Tabled (first_check h) (λ es. wrong_job (not (is_first h)) ∷ es)
+first_leaf : (h : Held) → Tabled (first_check h) (λ es. wrong_job (not (is_first h)) ∷ es)
 first_leaf h = leaf WrongJob (not (is_first h))
 
-pub of_pair : (x f : ResponseBit) → Tabled (pair_check x f) (pair_table x f)
+of_pair : (x f : ResponseBit) → Tabled (pair_check x f) (pair_table x f)
 unfolding pair_check
 of_pair x f = bit_leaf x then bit_leaf f then apart_leaf x f
 
@@ -329,7 +329,7 @@ of_held : (n : ℕ) (o : Job) → Tabled (held_check n o) (held_table n o)
 unfolding held_check
 of_held n o = of_used n o then unused_leaf o then place_leaf o
 
-pub of_step : (n : ℕ) (h : Held) → Tabled (step_held_check n h) (step_table n h)
+of_step : (n : ℕ) (h : Held) → Tabled (step_held_check n h) (step_table n h)
 of_step n held.Nothing = leaf WrongJob true
 of_step n (held.Holds o) = of_held n o
 

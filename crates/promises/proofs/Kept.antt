@@ -78,7 +78,7 @@ use Rattle.image.proofs.reading.read.Reads as read-reads
 unfoldable pub Stays : Machine → Machine → Type 0
 Stays m n = AreResponses m.responses → AreResponses n.responses
 
-pub by_check : (c : Check) (m n : Machine) → Stays m n → Stays m (change_by c n m)
+by_check : (c : Check) (m n : Machine) → Stays m n → Stays m (change_by c n m)
 unfolding Stays
 by_check Passed m n h = h
 by_check (Refused why) m n h = λ t. t
@@ -96,34 +96,26 @@ set_responses [] k v g h = tt
 set_responses (r ∷ rs) zero v g h = (g, h.1)
 set_responses (r ∷ rs) (suc k) v g h = (h.0, set_responses rs k v g h.1)
 
-pub answered_stays : (x f : ResponseBit) (k : WordSlice) (v : Verdict) (m : Machine) → Stays m (answered_at x f k v m)
-unfolding Stays
-answered_stays x f k v m = set_responses m.responses k.0 _ (answered_fits x f v _)
-
 pub an_answer : (x f : ResponseBit) (k : WordSlice) (v : Verdict) (m : Machine) → Stays m (after_answer x f k v m)
-unfolding after_answer
-an_answer x f k v m = by_check (answer_check x f k m) m (answered_at x f k v m) (answered_stays x f k v m)
+unfolding after_answer Stays
+an_answer x f k v m = by_check (answer_check x f k m) m (answered_at x f k v m) (set_responses m.responses k.0 _ (answered_fits x f v _))
 
-pub each_response : (f : ℕ → ℕ → ℕ) → ((k r : ℕ) → r < 256 ^ response_size → f k r < 256 ^ response_size) → (k : ℕ) (rs : List ℕ) → AreResponses rs → AreResponses (each f k rs)
+each_response : (f : ℕ → ℕ → ℕ) → ((k r : ℕ) → r < 256 ^ response_size → f k r < 256 ^ response_size) → (k : ℕ) (rs : List ℕ) → AreResponses rs → AreResponses (each f k rs)
 unfolding each
 each_response f h k [] b = tt
 each_response f h k (r ∷ rs) b = (h k r b.0, each_response f h (suc k) rs b.1)
 
--- what a round makes of one response
-pub worked_stays : (x f : ResponseBit) (vs : List ℕ) (k r : ℕ) → r < 256 ^ response_size → worked x f vs k r < 256 ^ response_size
-worked_stays x f vs k r h = go (has x r) (verdict_of vs k)
-  where
-    go : (b : Bool) (v : Verdict) → pick b (answered x f v r) r < 256 ^ response_size
-    go true v = answered_fits x f v r
-    go false v = h
-
 pub a_round : (x f : ResponseBit) (vs : List ℕ) (m : Machine) → Stays m (after_round x f vs m)
 unfolding after_round after_ended Stays
 a_round x f vs m =
-    by_check (round_check x f m) m (after_ended x f vs m) (each_response (worked x f vs) (worked_stays x f vs) 0 m.responses)
+    by_check (round_check x f m) m (after_ended x f vs m) (each_response (worked x f vs) (λ k r h. go (has x r) (verdict_of vs k) r h) 0 m.responses)
+  where
+    go : (b : Bool) (v : Verdict) (r : ℕ) → r < 256 ^ response_size → pick b (answered x f v r) r < 256 ^ response_size
+    go true v r h = answered_fits x f v r
+    go false v r h = h
 
 -- the machine m with a job held, then n, of which the buffers say that it is q
-pub so : (m n q : Machine) (h : Held) → q ≡ n → Stays m n → Typed (record { machine = m; held = h }) → Typed (record { machine = q; held = h })
+so : (m n q : Machine) (h : Held) → q ≡ n → Stays m n → Typed (record { machine = m; held = h }) → Typed (record { machine = q; held = h })
 unfolding Stays
 so m n q h e k t = record { responses = rw e (k t.responses); job = t.job }
 

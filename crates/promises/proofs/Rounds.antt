@@ -30,9 +30,8 @@ use Rattle.handout.specs.declared.Report.TheVariants as report
 use Rattle.handout.specs.Whole.{report_of, after_round}
 use Rattle.image_layout.specs.Format.{image_of}
 use Rattle.hosts.specs.Images.{Stores, Resumes, Typed}
-use Rattle.hosts.specs.Rounds.{Responder, lower, Looks, Other, Leaves, Apart, Beside, Given, words_of, verdicts_of, Phase, ready, showing, Entry, Hosted, stops, Both, Orderly, Shown, Finished}
+use Rattle.hosts.specs.Rounds.{Responder, lower, Looks, Leaves, Apart, Beside, Given, words_of, verdicts_of, Phase, ready, showing, Entry, Hosted, stops, Both, Orderly, Shown, Finished}
 use Rattle.hosts.proofs.Book as over-stops
-use Rattle.hosts.proofs.Staying.{others_keep}
 use Rattle.hosts.proofs.Rounds.{was_next, answerable, same_again, taken_is_shown, is_next, ends, over, faulty_has, done_has, others_have, storable_round, resumable}
 use Rattle.hosts.proofs.Book.{in_order, none_skipped, each_in_turn, words_in_turn}
 use Rattle.hosts.proofs.Both.{first_alone, second_alone, second_typed}
@@ -83,55 +82,55 @@ module _ (x f : ResponseBit) (b : State) (fine : round_check x f b.machine ≡ P
   -- a word that is shown was a responder in the first image, with exactly as many lower ones as answers are stored
   pub shown_was_next : {s : State} {image : List ℕ} {k : ℕ} {vs : List Given} {book : List Entry} → Hosted x f b s image (showing k) vs book
       → Responder x b.machine k × (lower x b.machine k ≡ length vs)
-  shown_was_next = was_next Other others_keep x f b fine typed
+  shown_was_next = was_next x f b fine typed
 
   -- asked again, show gives that word again: after a show, and after an answer that was turned down
   pub asked_gives_the_same : {s : State} {image : List ℕ} {k : ℕ} {vs : List Given} {book : List Entry} → Hosted x f b s image (showing k) vs book
       → show_of x s.machine ≡ resolved.At (record { 0 = k })
-  asked_gives_the_same = same_again Other others_keep x f b fine typed
+  asked_gives_the_same = same_again x f b fine typed
 
   -- its answer is accepted, done or faulty, and no other word's is; a refused one changes nothing (Demand1, `answer_unchanged`)
   pub shown_can_be_answered : {s : State} {image : List ℕ} {k : ℕ} {vs : List Given} {book : List Entry} → Hosted x f b s image (showing k) vs book
       → reply_of x f (record { 0 = k }) s.machine ≡ reply.Taken
-  shown_can_be_answered = answerable Other others_keep x f b fine typed
+  shown_can_be_answered = answerable x f b fine typed
 
   pub only_shown_can_be : {s : State} {image : List ℕ} {j : ℕ} {vs : List Given} {book : List Entry} → Hosted x f b s image (showing j) vs book
       → (k : WordSlice) → reply_of x f k s.machine ≡ reply.Taken → k.0 ≡ j
-  only_shown_can_be = taken_is_shown Other others_keep x f b fine typed
+  only_shown_can_be = taken_is_shown x f b fine typed
 
   -- before a show: an image of vs is stored, and no answer is given that isn't
   module _ {s : State} {image : List ℕ} {vs : List Given} {book : List Entry} (hosted : Hosted x f b s image ready vs book) where
     -- a responder with k lower ones is the one shown after exactly k stored answers
     pub next_is_shown : (k : ℕ) → Responder x b.machine k → lower x b.machine k ≡ length vs → show_of x s.machine ≡ resolved.At (record { 0 = k })
-    next_is_shown = is_next Other others_keep x f b fine typed hosted
+    next_is_shown = is_next x f b fine typed hosted
 
     -- the round ends after as many stored answers as there were responders, and only then
     pub ends_after_all : show_of x s.machine ≡ resolved.Nothing → length vs ≡ length (responders x b.machine)
-    ends_after_all = ends Other others_keep x f b fine typed hosted
+    ends_after_all = ends x f b fine typed hosted
 
     pub after_all_ends : length vs ≡ length (responders x b.machine) → show_of x s.machine ≡ resolved.Nothing
-    after_all_ends = over Other others_keep x f b fine typed hosted
+    after_all_ends = over x f b fine typed hosted
 
     -- F marks exactly the ones answered faulty, and stored, among them: those answered done and all other words have it as before
     pub faulty_have_f : (i : ℕ) → i < length vs → get_or (verdicts_of vs) i Done ≡ Faulty → bit (response s.machine (responder x b.machine i)) f.0 ≡ 1
-    faulty_have_f = faulty_has Other others_keep x f b fine typed hosted
+    faulty_have_f = faulty_has x f b fine typed hosted
 
     pub done_have_f_as_before : (i : ℕ) → i < length vs → get_or (verdicts_of vs) i Done ≡ Done
         → bit (response s.machine (responder x b.machine i)) f.0 ≡ bit (response b.machine (responder x b.machine i)) f.0
-    done_have_f_as_before = done_has Other others_keep x f b fine typed hosted
+    done_have_f_as_before = done_has x f b fine typed hosted
 
     pub others_have_f_as_before : (j : ℕ) → NotAmong (responders x b.machine) (length vs) j
         → bit (response s.machine j) f.0 ≡ bit (response b.machine j) f.0
-    others_have_f_as_before = others_have Other others_keep x f b fine typed hosted
+    others_have_f_as_before = others_have x f b fine typed hosted
 
     -- the finished round: when show gives none
     pub finished : show_of x s.machine ≡ resolved.Nothing → Finished x f b.machine s.machine vs book
-    finished = over-stops.finished Other others_keep x f b fine typed hosted
+    finished = over-stops.finished x f b fine typed hosted
 
   module _ {s : State} {image : List ℕ} {phase : Phase} {vs : List Given} {book : List Entry} (hosted : Hosted x f b s image phase vs book) where
     -- every show in the book, not only the last, gave a responder after exactly as many stored answers as it has lower ones
     pub each_shown_in_turn : (k n : ℕ) → Shown k n book → Responder x b.machine k × (lower x b.machine k ≡ n)
-    each_shown_in_turn = each_in_turn Other others_keep x f b fine typed hosted
+    each_shown_in_turn = each_in_turn x f b fine typed hosted
 
     -- "From an older image the round is the one that stood then": wherever the round went on to after `hosted`, from the image that was the last
     -- there it shows the responder that was the next then
@@ -141,23 +140,23 @@ module _ (x f : ResponseBit) (b : State) (fine : round_check x f b.machine ≡ P
 
     -- the stored answers are the lowest responders', in rising order, one each
     pub answered_in_turn : words_of vs ≡ take (length vs) (responders x b.machine)
-    answered_in_turn = words_in_turn Other others_keep x f b fine typed hosted
+    answered_in_turn = words_in_turn x f b fine typed hosted
 
     -- "never skipped, at most one twice at each stop": each word shown was the next responder or, after a stop or where the host asked
     -- again, the last one again (`Orderly`)
     pub shown_in_order : (many : ℕ) × ((length vs ≤ many) × (many ≤ length vs + 1) × Orderly x b.machine book many)
-    shown_in_order = in_order Other others_keep x f b fine typed hosted
+    shown_in_order = in_order x f b fine typed hosted
 
     pub never_skipped : (k : ℕ) → Responder x b.machine k → lower x b.machine k < length vs → Shown k (lower x b.machine k) book
-    never_skipped = none_skipped Other others_keep x f b fine typed hosted
+    never_skipped = none_skipped x f b fine typed hosted
 
     -- what stands can always be stored, and the last stored image resumed
     pub can_store_round : (output : List ℕ) → length (image_of s) ≤ length output → Stores output s (image_of s)
-    can_store_round = storable_round Other others_keep x f b fine typed hosted
+    can_store_round = storable_round x f b fine typed hosted
 
     pub can_resume_round : (words responses : List ℕ) → length b.machine.words ≤ length words → length b.machine.words ≤ length responses
         → (t : State) × Resumes words responses image t
-    can_resume_round = resumable Other others_keep x f b fine typed hosted
+    can_resume_round = resumable x f b fine typed hosted
 
 -- ---- two rounds side by side, over four different bits, their calls in any order (`Both`)
 

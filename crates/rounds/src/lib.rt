@@ -32,7 +32,7 @@ pub fn check_show(words: &[u64], responses: &[Response], width: u32, x: Response
 }
 
 // 23 and 24, of an answer.
-pub fn check_pair(x: ResponseBit, f: ResponseBit) -> Check
+fn check_pair(x: ResponseBit, f: ResponseBit) -> Check
     ensures { result ≡ pair_check x f }
 {
     machine::in_order(

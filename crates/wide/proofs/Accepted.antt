@@ -34,7 +34,7 @@ use Rattle.wide.specs.Accepted.{Accepted, rest_check}
 not_at : {A : Type 0} (k : ℕ) → At (record { 0 = k }) ≡ Nothing → A
 not_at k e = let z : ◌≡◌ {A = ℕ} 0 1 = cc in absurd (omega arith)
 
-pub words_fit : (n k : ℕ) (ws : List ℕ) → lowest (too_wide n) k ws ≡ Nothing → (j : ℕ) → get_or ws j 0 < 2 ^ n
+words_fit : (n k : ℕ) (ws : List ℕ) → lowest (too_wide n) k ws ≡ Nothing → (j : ℕ) → get_or ws j 0 < 2 ^ n
 unfolding lowest
 words_fit n k [] e j = pow_pos n
 words_fit n k (w ∷ ws) e j = go (too_wide n w) refl e (words_fit n (suc k) ws) j

@@ -17,9 +17,9 @@ pub fn unless(met: bool, number: u8) -> Judged {
     }
 }
 
-/// "In the order 1 to 6, 13, 7, 20 to 25, 9, 10, 11": not that of the numbers
-/// themselves, since 13 came later and 20 to 25 stand where 8 stood.
-const ORDER: [u8; 17] = [1, 2, 3, 4, 5, 6, 13, 7, 20, 21, 22, 23, 24, 25, 9, 10, 11];
+/// "In the order 1 to 7, 20 to 25, 9, 10, 11": not that of the numbers
+/// themselves, since 20 to 25 stand where 8 stood.
+const ORDER: [u8; 16] = [1, 2, 3, 4, 5, 6, 7, 20, 21, 22, 23, 24, 25, 9, 10, 11];
 
 /// A number's place in that order. 12 has none: the array's calls, which alone
 /// give it, have an order of their own.

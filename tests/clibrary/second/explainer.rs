@@ -5,14 +5,13 @@ use crate::calls::{first, Answer, Judged};
 use crate::lent::{machine_of, Lent};
 use crate::panels::{bytes_fit, panel_of, registers_of};
 use processor::machine::{Machine, Refusal};
-use processor::modules::Run;
 use processor::why::{why, Reason};
 
 /// The reason, the syllable and the bit.
-pub const VALUES: usize = 3;
+const VALUES: usize = 3;
 
 /// Each reason's number, with 0 for what goes with another reason only.
-pub fn values_of(reason: Reason) -> Vec<u64> {
+fn values_of(reason: Reason) -> Vec<u64> {
     let (number, syllable, bit) = match reason {
         Reason::Matched => (1, 0, 0),
         Reason::NotSelected { differs } => (2, 0, differs),
@@ -22,17 +21,16 @@ pub fn values_of(reason: Reason) -> Vec<u64> {
     vec![number, u64::from(syllable), u64::from(bit)]
 }
 
-/// What is told of a word, in the run that is named if one is. A panel of a wrong
-/// length is 1, so nothing that is judged after it could come before it.
-pub fn explained(
+/// A panel of a wrong length is 1, so nothing that is judged after it could come
+/// before it.
+fn explained(
     machine: &Machine,
     panel: &Lent<u64>,
     word: usize,
-    named: Option<Run>,
     room: Judged,
 ) -> Result<Reason, Refusal> {
     let registers = registers_of(panel)?;
-    let told = why(machine, &panel_of(&registers), word as u64, named);
+    let told = why(machine, &panel_of(&registers), word as u64);
     first(told, &[bytes_fit(&registers), room])
 }
 
@@ -56,6 +54,6 @@ pub unsafe extern "C" fn second_explain(
     let machine = machine_of(&words, &responses, width);
     let panel = Lent::new(panel, panel_length);
     let answer = Answer::new(answer, answer_length, VALUES);
-    let outcome = explained(&machine, &panel, word, None, answer.room());
+    let outcome = explained(&machine, &panel, word, answer.room());
     answer.tell(outcome.map(values_of))
 }

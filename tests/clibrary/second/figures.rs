@@ -1,7 +1,7 @@
 //! Document 01's figures 1 to 13 through the second_ functions, figures of
 //! request c of document 02 (at_least.rs), examples of its requests d
-//! (job_refusals.rs), e (explains.rs) and f (runs.rs, run_jobs.rs) and of what
-//! the header adds (examples.rs). All expected values were worked out by hand from the documents
+//! (job_refusals.rs) and e (explains.rs) and of what the header adds
+//! (examples.rs). All expected values were worked out by hand from the documents
 //! and the header, none was copied from a run.
 //! Prints each difference and, last, 'N passed, M failed'.
 
@@ -10,9 +10,6 @@ mod examples;
 mod explains;
 mod hosts;
 mod job_refusals;
-mod run_hosts;
-mod run_jobs;
-mod runs;
 
 use hosts::*;
 
@@ -354,8 +351,6 @@ fn main() {
     at_least::run(&mut tally);
     job_refusals::run(&mut tally);
     explains::run(&mut tally);
-    runs::run(&mut tally);
-    run_jobs::run(&mut tally);
     examples::run(&mut tally);
     println!("{} passed, {} failed", tally.passed, tally.failed);
     std::process::exit(i32::from(tally.failed > 0));

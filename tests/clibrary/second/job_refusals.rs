@@ -2,7 +2,7 @@
 //! each of 20 to 25 alone, where two numbers meet, and beside the numbers that
 //! the header adds, 1 for a record's length and 10 for too little room. Worked
 //! out by hand from the request's sentences, document 01 and the header: "in
-//! the order 1 to 6, 13, 7, 20 to 25, 9, 10, 11".
+//! the order 1 to 7, 20 to 25, 9, 10, 11".
 
 use crate::hosts::*;
 

@@ -6,14 +6,13 @@ use crate::panels::{byte_of, numbers_of, REGISTERS};
 use processor::image::{job_of, put_job, JOB_BYTES};
 use processor::jobs::{self, Job, Step};
 use processor::machine::{Machine, Refusal};
-use processor::modules::Run;
 
 /// That the job is held.
 const START_VALUES: usize = 1;
 /// The registers, the line byte, the count, and whether a job is held.
-pub const STEP_VALUES: usize = REGISTERS + 3;
+const STEP_VALUES: usize = REGISTERS + 3;
 /// How many steps the job takes.
-pub const TOTAL_VALUES: usize = 1;
+const TOTAL_VALUES: usize = 1;
 
 /// The job of a record that must be there. 1: "a job's record of a wrong
 /// length".
@@ -88,11 +87,10 @@ pub unsafe extern "C" fn second_start(
 fn stepped(
     machine: &mut Machine,
     job: &Lent<u8>,
-    named: Option<Run>,
     room: Judged,
 ) -> Result<(Step, Option<Job>), Refusal> {
     let mut held = held_of(job)?;
-    let step = first(jobs::step(machine, &mut held, named), &[room])?;
+    let step = first(jobs::step(machine, &mut held), &[room])?;
     Ok((step, held))
 }
 
@@ -103,23 +101,6 @@ fn step_values(step: &Step) -> Vec<u64> {
     values.push(step.count as u64);
     values.push(u64::from(step.held));
     values
-}
-
-/// One step on what was lent, in the run that is named if one is.
-pub fn give_step(
-    (words, responses, width): (Open<u64>, Open<u8>, u32),
-    job: Open<u8>,
-    named: Option<Run>,
-    answer: Answer,
-) -> u32 {
-    let mut machine = machine_of(&words.seen(), &responses.seen(), width);
-    let outcome = stepped(&mut machine, &job.seen(), named, answer.room());
-    answer.tell(outcome.map(|(step, held)| {
-        words.put(&machine.words);
-        responses.put(&machine.responses);
-        job.put(&bytes_of(&held));
-        step_values(&step)
-    }))
 }
 
 /// # Safety
@@ -140,14 +121,14 @@ pub unsafe extern "C" fn second_step(
     let responses = Open::new(responses, responses_length);
     let job = Open::new(job, job_length);
     let answer = Answer::new(answer, answer_length, STEP_VALUES);
-    give_step((words, responses, width), job, None, answer)
-}
-
-/// The total of what was lent, in the run that is named if one is.
-pub fn tell_total(machine: &Machine, job: &Lent<u8>, named: Option<Run>, answer: Answer) -> u32 {
-    let total = |held| first(jobs::total(machine, &held, named), &[answer.room()]);
-    let outcome = held_of(job).and_then(total);
-    answer.tell(outcome.map(|pulses| vec![pulses]))
+    let mut machine = machine_of(&words.seen(), &responses.seen(), width);
+    let outcome = stepped(&mut machine, &job.seen(), answer.room());
+    answer.tell(outcome.map(|(step, held)| {
+        words.put(&machine.words);
+        responses.put(&machine.responses);
+        job.put(&bytes_of(&held));
+        step_values(&step)
+    }))
 }
 
 /// # Safety
@@ -169,5 +150,7 @@ pub unsafe extern "C" fn second_total(
     let machine = machine_of(&words, &responses, width);
     let job = Lent::new(job, job_length);
     let answer = Answer::new(answer, answer_length, TOTAL_VALUES);
-    tell_total(&machine, &job, None, answer)
+    let outcome =
+        held_of(&job).and_then(|held| first(jobs::total(&machine, &held), &[answer.room()]));
+    answer.tell(outcome.map(|pulses| vec![pulses]))
 }

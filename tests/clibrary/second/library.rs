@@ -10,7 +10,6 @@ pub mod explainer;
 pub mod images;
 pub mod jobs;
 pub mod lent;
-pub mod modules;
 pub mod panels;
 pub mod pulses;
 pub mod rounds;

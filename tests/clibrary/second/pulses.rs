@@ -5,12 +5,11 @@ use crate::lent::{machine_of, Lent, Open};
 use crate::panels::{bytes_fit, line_byte_fits, lines_of, panel_of, registers_of};
 use processor::cells::CELLS;
 use processor::machine::{Machine, Refusal};
-use processor::modules::Run;
 use processor::pulse::{self, pulse, Way};
 use processor::wide::WIDE;
 
 /// The count and the word read.
-pub const VALUES: usize = 2;
+const VALUES: usize = 2;
 
 /// The pulse on a copy of the machine. A panel of a wrong length is 1, so
 /// nothing that is judged after it could come before it.
@@ -19,28 +18,24 @@ fn pulsed(
     machine: &mut Machine,
     panel: &Lent<u64>,
     lines: u8,
-    named: Option<Run>,
     room: Judged,
 ) -> Result<pulse::Answer, Refusal> {
     let registers = registers_of(panel)?;
     let added = [bytes_fit(&registers), line_byte_fits(lines), room];
-    let panel = panel_of(&registers);
-    let given = pulse(way, machine, &panel, lines_of(lines), named);
+    let given = pulse(way, machine, &panel_of(&registers), lines_of(lines));
     first(given, &added)
 }
 
-/// One pulse of either machine on what was lent, in the run that is named if one
-/// is.
-pub fn give(
+/// One pulse of either machine on what was lent.
+fn give(
     way: &Way,
     (words, responses, width): (Open<u64>, Open<u8>, u32),
     panel: &Lent<u64>,
     lines: u8,
-    named: Option<Run>,
     answer: Answer,
 ) -> u32 {
     let mut machine = machine_of(&words.seen(), &responses.seen(), width);
-    let outcome = pulsed(way, &mut machine, panel, lines, named, answer.room());
+    let outcome = pulsed(way, &mut machine, panel, lines, answer.room());
     answer.tell(outcome.map(|found| {
         words.put(&machine.words);
         responses.put(&machine.responses);
@@ -67,8 +62,7 @@ pub unsafe extern "C" fn second_wide_pulse(
     let responses = Open::new(responses, responses_length);
     let panel = Lent::new(panel, panel_length);
     let answer = Answer::new(answer, answer_length, VALUES);
-    let machine = (words, responses, width);
-    give(&WIDE, machine, &panel, lines, None, answer)
+    give(&WIDE, (words, responses, width), &panel, lines, answer)
 }
 
 /// # Safety
@@ -90,6 +84,5 @@ pub unsafe extern "C" fn second_cells_pulse(
     let responses = Open::new(responses, responses_length);
     let panel = Lent::new(panel, panel_length);
     let answer = Answer::new(answer, answer_length, VALUES);
-    let machine = (words, responses, width);
-    give(&CELLS, machine, &panel, lines, None, answer)
+    give(&CELLS, (words, responses, width), &panel, lines, answer)
 }

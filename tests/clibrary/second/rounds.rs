@@ -3,16 +3,15 @@
 use crate::calls::{first, Answer, Judged};
 use crate::lent::{machine_of, Lent, Open, ENOUGH};
 use processor::machine::{Machine, Refusal, MOST_BITS};
-use processor::modules::Run;
 use processor::resolve;
 use processor::round::{self, Verdict};
 
 /// Found and its number.
-pub const FOUND_VALUES: usize = 2;
+const FOUND_VALUES: usize = 2;
 /// An answer for a word answers nothing more.
-pub const REPLY_VALUES: usize = 0;
+const REPLY_VALUES: usize = 0;
 /// How many were done and how many faulty.
-pub const ROUND_VALUES: usize = 2;
+const ROUND_VALUES: usize = 2;
 
 /// 11, which a whole round never gives.
 const NOT_SHOWN: u8 = 11;
@@ -26,7 +25,7 @@ fn found_values(found: Option<usize>) -> Vec<u64> {
 }
 
 /// Tells of a word found, or of the refusal that comes first.
-pub fn tell_found(found: Result<Option<usize>, Refusal>, answer: Answer) -> u32 {
+fn tell_found(found: Result<Option<usize>, Refusal>, answer: Answer) -> u32 {
     answer.tell(first(found, &[answer.room()]).map(found_values))
 }
 
@@ -48,7 +47,7 @@ pub unsafe extern "C" fn second_scan(
     let responses = Lent::new(responses, responses_length);
     let machine = machine_of(&words, &responses, width);
     let answer = Answer::new(answer, answer_length, FOUND_VALUES);
-    tell_found(resolve::scan(&machine, key, care, None), answer)
+    tell_found(resolve::scan(&machine, key, care), answer)
 }
 
 /// # Safety
@@ -69,7 +68,7 @@ pub unsafe extern "C" fn second_network(
     let responses = Lent::new(responses, responses_length);
     let machine = machine_of(&words, &responses, width);
     let answer = Answer::new(answer, answer_length, FOUND_VALUES);
-    tell_found(resolve::tree(&machine, key, care, None), answer)
+    tell_found(resolve::tree(&machine, key, care), answer)
 }
 
 /// # Safety
@@ -89,7 +88,7 @@ pub unsafe extern "C" fn second_show(
     let responses = Lent::new(responses, responses_length);
     let machine = machine_of(&words, &responses, width);
     let answer = Answer::new(answer, answer_length, FOUND_VALUES);
-    tell_found(round::show(&machine, x, None), answer)
+    tell_found(round::show(&machine, x), answer)
 }
 
 /// 1 says done. "Any other number says faulty too: no word is called done by
@@ -100,30 +99,6 @@ fn verdict_of(number: u8) -> Verdict {
     } else {
         Verdict::Faulty
     }
-}
-
-/// What the host says of a word: its number, and the verdict's.
-pub struct Said {
-    pub word: usize,
-    pub verdict: u8,
-}
-
-/// An answer for a word on what was lent, in the run that is named if one is. The
-/// round's bits are X and F.
-pub fn reply(
-    (words, responses, width): (Lent<u64>, Open<u8>, u32),
-    (x, f): (u8, u8),
-    said: Said,
-    named: Option<Run>,
-    answer: Answer,
-) -> u32 {
-    let mut machine = machine_of(&words, &responses.seen(), width);
-    let (word, verdict) = (said.word as u64, verdict_of(said.verdict));
-    let given = round::answer(&mut machine, verdict, x, f, word, named);
-    answer.tell(first(given, &[answer.room()]).map(|()| {
-        responses.put(&machine.responses);
-        Vec::new()
-    }))
 }
 
 /// # Safety
@@ -145,34 +120,32 @@ pub unsafe extern "C" fn second_answer(
     let words = Lent::new(words, words_length);
     let responses = Open::new(responses, responses_length);
     let answer = Answer::new(answer, answer_length, REPLY_VALUES);
-    let said = Said { word, verdict };
-    reply((words, responses, width), (x, f), said, None, answer)
+    let mut machine = machine_of(&words, &responses.seen(), width);
+    let given = round::answer(&mut machine, verdict_of(verdict), x, f, word as u64);
+    answer.tell(first(given, &[answer.room()]).map(|()| {
+        responses.put(&machine.responses);
+        Vec::new()
+    }))
 }
 
 /// A round is turned down as an answer is, but for 11. The answer asked is for
 /// a word that no machine has, so it changes nothing.
-fn may_go_round(machine: &mut Machine, (x, f): (u8, u8), named: Option<Run>) -> Judged {
-    match round::answer(machine, Verdict::Done, x, f, u64::MAX, named) {
+fn may_go_round(machine: &mut Machine, x: u8, f: u8) -> Judged {
+    match round::answer(machine, Verdict::Done, x, f, u64::MAX) {
         Err(refusal) if refusal.number != NOT_SHOWN => Err(refusal),
         _ => Ok(()),
     }
 }
 
 /// "Every word with bit x is answered, the lowest first, with the verdict at
-/// its number; a word that the list of verdicts doesn't reach is faulty." In a run
-/// that is every word of the run, and its number is the array's all the same.
+/// its number; a word that the list of verdicts doesn't reach is faulty."
 /// Gives how many were done and how many faulty. The words were judged before
 /// and a round doesn't look at them: at the greatest width the second program
 /// has nothing to judge of them again at each show and each answer.
-fn go_round(
-    machine: &mut Machine,
-    (x, f): (u8, u8),
-    verdicts: &[u8],
-    named: Option<Run>,
-) -> Result<Vec<u64>, Refusal> {
+fn go_round(machine: &mut Machine, x: u8, f: u8, verdicts: &[u8]) -> Result<Vec<u64>, Refusal> {
     machine.width = MOST_BITS;
     let (mut done, mut faulty) = (0, 0);
-    while let Some(word) = round::show(machine, x, named)? {
+    while let Some(word) = round::show(machine, x)? {
         let verdict = match verdicts.get(word) {
             Some(number) => verdict_of(*number),
             None => Verdict::Faulty,
@@ -181,28 +154,9 @@ fn go_round(
             Verdict::Done => done += 1,
             Verdict::Faulty => faulty += 1,
         }
-        round::answer(machine, verdict, x, f, word as u64, named)?;
+        round::answer(machine, verdict, x, f, word as u64)?;
     }
     Ok(vec![done, faulty])
-}
-
-/// A whole round on what was lent, in the run that is named if one is.
-pub fn give_round(
-    (words, responses, width): (Lent<u64>, Open<u8>, u32),
-    bits: (u8, u8),
-    verdicts: &Lent<u8>,
-    named: Option<Run>,
-    answer: Answer,
-) -> u32 {
-    let verdicts = verdicts.first(ENOUGH);
-    let mut machine = machine_of(&words, &responses.seen(), width);
-    let judged = may_go_round(&mut machine, bits, named);
-    let outcome = first(judged, &[answer.room()])
-        .and_then(|()| go_round(&mut machine, bits, &verdicts, named));
-    answer.tell(outcome.map(|values| {
-        responses.put(&machine.responses);
-        values
-    }))
 }
 
 /// # Safety
@@ -223,7 +177,13 @@ pub unsafe extern "C" fn second_round(
 ) -> u32 {
     let words = Lent::new(words, words_length);
     let responses = Open::new(responses, responses_length);
-    let verdicts = Lent::new(verdicts, verdicts_length);
+    let verdicts = Lent::new(verdicts, verdicts_length).first(ENOUGH);
     let answer = Answer::new(answer, answer_length, ROUND_VALUES);
-    give_round((words, responses, width), (x, f), &verdicts, None, answer)
+    let mut machine = machine_of(&words, &responses.seen(), width);
+    let outcome = first(may_go_round(&mut machine, x, f), &[answer.room()])
+        .and_then(|()| go_round(&mut machine, x, f, &verdicts));
+    answer.tell(outcome.map(|values| {
+        responses.put(&machine.responses);
+        values
+    }))
 }

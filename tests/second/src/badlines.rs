@@ -5,7 +5,7 @@ use crate::writer::Writer;
 use processor::line::LONGEST;
 
 /// One good line of each command.
-const GOOD: [&str; 38] = [
+const GOOD: [&str; 36] = [
     "machine 8 3",
     "lend 3",
     "word 0 35",
@@ -14,8 +14,6 @@ const GOOD: [&str; 38] = [
     "load sc3 0F",
     "load key 7f",
     "load address 2",
-    "modules 0 1",
-    "modules all",
     "pulse search read",
     "cells add",
     "resolve",
@@ -78,7 +76,7 @@ const ODD: [&str; 26] = [
 
 /// The ranges of the language: a line's beginning, a word at the edge of its
 /// range, one beyond it, and the line's end.
-const RANGES: [[&str; 4]; 34] = [
+const RANGES: [[&str; 4]; 32] = [
     ["machine ", "255", "256", " 3"],
     ["machine 8 ", "2048", "2049", ""],
     ["lend ", "2048", "2049", ""],
@@ -97,18 +95,6 @@ const RANGES: [[&str; 4]; 34] = [
         "",
     ],
     ["why ", "18446744073709551615", "18446744073709551616", ""],
-    [
-        "modules ",
-        "18446744073709551615",
-        "18446744073709551616",
-        " 1",
-    ],
-    [
-        "modules 0 ",
-        "18446744073709551615",
-        "18446744073709551616",
-        "",
-    ],
     ["pulse ", "search read", "search search", ""],
     ["cells ", "read multiadd", "read read", ""],
     ["show ", "255", "256", ""],

@@ -8,7 +8,6 @@ use crate::image;
 use crate::jobs::{self, Job, Span, NAMES};
 use crate::line::Line;
 use crate::machine::{Machine, Refusal, MOST_WORDS};
-use crate::modules::Run;
 use crate::panel::{Lines, Panel};
 use crate::pulse::{pulse, Way};
 use crate::resolve;
@@ -23,8 +22,6 @@ pub struct Console {
     pub machine: Machine,
     pub panel: Panel,
     pub job: Option<Job>,
-    /// The run of modules that the lines of request f name, if any.
-    pub modules: Option<Run>,
     pub array: Array,
 }
 
@@ -43,7 +40,6 @@ impl Console {
             machine: Machine::blank(8, 3),
             panel: Panel::default(),
             job: None,
-            modules: None,
             array: Array::blank(8, 3),
         }
     }
@@ -72,8 +68,6 @@ impl Console {
             [b"word", index, value] => self.write_word(index, value),
             [b"response", index, value] => self.write_response(index, value),
             [b"load", register, value] => self.load(register, value),
-            [b"modules", b"all"] => self.name_all(),
-            [b"modules", first, count] => self.name_run(first, count),
             [b"pulse", lines @ ..] => self.pulse(&WIDE, lines),
             [b"cells", lines @ ..] => self.pulse(&CELLS, lines),
             [b"resolve"] => Some(self.resolve()),
@@ -112,7 +106,7 @@ impl Console {
         self.machine = Machine::blank(width, n as usize);
         self.panel = Panel::default();
         self.job = None;
-        self.name_all()
+        ok()
     }
 
     fn lend(&mut self, m: &[u8]) -> Option<Outcome> {
@@ -151,41 +145,23 @@ impl Console {
         ok()
     }
 
-    /// "The run (each number below 2^64) that" the other lines "then name". Whether
-    /// there is such a run is judged where one of them is given.
-    fn name_run(&mut self, first: &[u8], count: &[u8]) -> Option<Outcome> {
-        self.modules = Some(Run {
-            first: decimal(first, u64::MAX)?,
-            count: decimal(count, u64::MAX)?,
-        });
-        ok()
-    }
-
-    /// "No run is named any more, as at the start and after `machine`."
-    fn name_all(&mut self) -> Option<Outcome> {
-        self.modules = None;
-        ok()
-    }
-
     fn pulse(&mut self, way: &Way, names: &[&[u8]]) -> Option<Outcome> {
         let lines = lines_of(names)?;
-        let answer = pulse(way, &mut self.machine, &self.panel, lines, self.modules);
+        let answer = pulse(way, &mut self.machine, &self.panel, lines);
         Some(answer.map(|a| format!("count {} read {:016X}", a.count, a.read)))
     }
 
     fn resolve(&self) -> Outcome {
-        let (key, care) = (self.panel.key, self.panel.care);
-        resolve::scan(&self.machine, key, care, self.modules).map(word_text)
+        resolve::scan(&self.machine, self.panel.key, self.panel.care).map(word_text)
     }
 
     fn tree(&self) -> Outcome {
-        let (key, care) = (self.panel.key, self.panel.care);
-        resolve::tree(&self.machine, key, care, self.modules).map(word_text)
+        resolve::tree(&self.machine, self.panel.key, self.panel.care).map(word_text)
     }
 
     fn why(&self, word: &[u8]) -> Option<Outcome> {
         let word = decimal(word, u64::MAX)?;
-        Some(why(&self.machine, &self.panel, word, self.modules).map(reason_text))
+        Some(why(&self.machine, &self.panel, word).map(reason_text))
     }
 
     fn start(&mut self, fields: &[&[u8]]) -> Option<Outcome> {
@@ -206,32 +182,27 @@ impl Console {
     }
 
     fn step(&mut self) -> Outcome {
-        self.one_step().map(step_text)
-    }
-
-    fn one_step(&mut self) -> Result<jobs::Step, Refusal> {
-        jobs::step(&mut self.machine, &mut self.job, self.modules)
+        jobs::step(&mut self.machine, &mut self.job).map(step_text)
     }
 
     /// "At least one step, then steps until no job is held or a step is
-    /// refused"; a refusal of the first step is the answer. Each step names the run.
+    /// refused"; a refusal of the first step is the answer.
     fn run(&mut self) -> Outcome {
-        self.one_step()?;
+        jobs::step(&mut self.machine, &mut self.job)?;
         let mut pulses = 1;
-        while self.job.is_some() && self.one_step().is_ok() {
+        while self.job.is_some() && jobs::step(&mut self.machine, &mut self.job).is_ok() {
             pulses += 1;
         }
         Ok(format!("pulses {pulses}"))
     }
 
     fn total(&self) -> Outcome {
-        let total = jobs::total(&self.machine, &self.job, self.modules);
-        total.map(|pulses| format!("pulses {pulses}"))
+        jobs::total(&self.machine, &self.job).map(|pulses| format!("pulses {pulses}"))
     }
 
     fn show(&self, x: &[u8]) -> Option<Outcome> {
         let x = small(x)?;
-        Some(round::show(&self.machine, x, self.modules).map(word_text))
+        Some(round::show(&self.machine, x).map(word_text))
     }
 
     fn answer_round(
@@ -244,7 +215,7 @@ impl Console {
         let x = small(x)?;
         let f = small(f)?;
         let word = decimal(word, u64::MAX)?;
-        let outcome = round::answer(&mut self.machine, verdict, x, f, word, self.modules);
+        let outcome = round::answer(&mut self.machine, verdict, x, f, word);
         Some(outcome.map(|()| "ok".to_string()))
     }
 
@@ -273,8 +244,7 @@ impl Console {
         Some(self.read(&bytes, words as usize, responses as usize))
     }
 
-    /// "The machine is then the one read, the panel stays." Request f: both "leave the
-    /// run as it is".
+    /// "The machine is then the one read, the panel stays."
     fn read(&mut self, bytes: &[u8], words: usize, responses: usize) -> Outcome {
         let (machine, job) = image::read(bytes, words, responses)?;
         self.machine = machine;

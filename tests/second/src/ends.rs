@@ -1,11 +1,8 @@
 //! The stated end of a job, held against the images before and after it. It
-//! is worked out from the words' numbers at once, without any pulse. With request f of
-//! document 02 it concerns the words of a run, and all others are as they were.
+//! is worked out from the words' numbers at once, without any pulse.
 
-use crate::parts;
 use crate::told::Told;
 use processor::image;
-use processor::jobs::Job;
 use processor::machine::{is_selected, Machine, MOST_WORDS};
 use processor::syllable::Syllable;
 
@@ -23,13 +20,13 @@ struct Start {
 }
 
 /// Holds the end of an accepted job against its start.
-pub fn hold(run: parts::Told, before: &Told, start: &Told, end: &Told) -> Result<(), String> {
+pub fn hold(before: &Told, start: &Told, end: &Told) -> Result<(), String> {
     if start.answer.as_deref() != Some("ok") {
         return Ok(());
     }
     let told = (machine_of(before), start_of(start), machine_of(end));
     let good = match told {
-        (Some(before), Some(start), Some(end)) => is_end(run, &before, &start, &end),
+        (Some(before), Some(start), Some(end)) => is_end(&before, &start, &end),
         _ => false,
     };
     if good {
@@ -41,18 +38,13 @@ pub fn hold(run: parts::Told, before: &Told, start: &Told, end: &Told) -> Result
 
 /// The machine of a stored image that holds no job.
 fn machine_of(told: &Told) -> Option<Machine> {
-    let (machine, job) = image_of(told)?;
-    Some(machine).filter(|_| job.is_none())
-}
-
-/// The machine and the job of a stored image.
-pub fn image_of(told: &Told) -> Option<(Machine, Option<Job>)> {
     let digits = told.answer.as_deref()?.strip_prefix("image ")?;
     let mut bytes = Vec::new();
     for at in (0..digits.len()).step_by(2) {
         bytes.push(u8::from_str_radix(digits.get(at..at + 2)?, 16).ok()?);
     }
-    image::read(&bytes, MOST_WORDS, MOST_WORDS).ok()
+    let (machine, job) = image::read(&bytes, MOST_WORDS, MOST_WORDS).ok()?;
+    Some(machine).filter(|_| job.is_none())
 }
 
 fn start_of(told: &Told) -> Option<Start> {
@@ -82,17 +74,14 @@ fn start_of(told: &Told) -> Option<Start> {
 /// "X marks exactly the selected words with the extreme value. P holds the
 /// stated value in selected words; all other data bits, and response bits but
 /// the job's working ones, are unchanged."
-fn is_end(run: parts::Told, before: &Machine, start: &Start, end: &Machine) -> bool {
+fn is_end(before: &Machine, start: &Start, end: &Machine) -> bool {
     let extreme = start.kind <= 2;
-    let best = best_of(run, before, start);
+    let best = best_of(before, start);
     let alike = before.width == end.width && before.words.len() == end.words.len();
     alike
         && (0..before.words.len()).all(|index| {
             let (word, response) = (before.words[index], before.responses[index]);
             let (new_word, new_response) = (end.words[index], end.responses[index]);
-            if !run.has(index) {
-                return (new_word, new_response) == (word, response);
-            }
             let selected = is_selected(response, start.key, start.care);
             let marked = selected && Some(start.a.number(word)) == best;
             if extreme {
@@ -107,12 +96,11 @@ fn is_end(run: parts::Told, before: &Machine, start: &Start, end: &Machine) -> b
         })
 }
 
-/// The greatest or the smallest A of the run's selected words, if there is one.
-fn best_of(run: parts::Told, machine: &Machine, start: &Start) -> Option<u64> {
-    let entries = machine.words.iter().zip(&machine.responses).enumerate();
-    let inside = entries.filter(|(index, _)| run.has(*index));
-    let selected = inside.filter(|(_, (_, r))| is_selected(**r, start.key, start.care));
-    let values = selected.map(|(_, (word, _))| start.a.number(*word));
+/// The greatest or the smallest A of the selected words, if there is one.
+fn best_of(machine: &Machine, start: &Start) -> Option<u64> {
+    let entries = machine.words.iter().zip(&machine.responses);
+    let selected = entries.filter(|(_, r)| is_selected(**r, start.key, start.care));
+    let values = selected.map(|(word, _)| start.a.number(*word));
     if start.kind == 1 {
         values.max()
     } else {

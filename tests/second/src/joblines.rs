@@ -30,19 +30,10 @@ impl Writer {
             self.say("drop");
         }
         let job = self.wish();
-        self.whole_job(&job);
-    }
-
-    /// A job started, told its total and run, between two images. In a run that 13 is
-    /// given for it has no end.
-    pub fn whole_job(&mut self, job: &Job) {
-        if self.model.modules == self.good_run() {
-            let told = self.run_told();
-            self.say(format!("# ends{told}"));
-        }
+        self.say("# ends");
         self.say("# same 3 4");
         self.say("store");
-        self.start(job);
+        self.start(&job);
         self.say("total");
         self.say("run");
         self.say("store");
@@ -57,13 +48,9 @@ impl Writer {
                 self.say("step");
             }
         }
-        if self.is_storable() && self.n() <= 100 {
-            self.stopped_job();
+        if !self.is_storable() || self.n() > 100 {
+            return;
         }
-    }
-
-    /// An image of a job on its way, and the job run to its end twice from there.
-    pub fn stopped_job(&mut self) {
         self.say("# same 2 5");
         self.say("# same 3 6");
         let answer = self.say("store");

@@ -1,14 +1,11 @@
 //! Jobs: their record, what the numbers 20 to 25 judge of it, their commands,
-//! their places and their totals. With request f of document 02 each step names a run
-//! of modules, the same one or another, and so does the total; a start names none.
+//! their places and their totals.
 
 use crate::machine::{bit, is_selected, one_at, ones, refused, refused_at, Machine, Refusal};
-use crate::modules::{concerned, Run};
 use crate::panel::{Lines, Panel};
 use crate::pulse::apply;
 use crate::syllable::Syllable;
 use crate::wide::WIDE;
-use std::ops::Range;
 
 /// The kinds, "1 to 4 as in the table".
 pub const GREATEST: u8 = 1;
@@ -389,12 +386,15 @@ impl Job {
     }
 
     /// An extreme's pulses: "1+a plus, if any word is selected, the number of
-    /// ones in the greatest syllable (of zeros in the smallest)", of these words.
-    fn extreme_total(&self, machine: &Machine, words: Range<usize>) -> u64 {
+    /// ones in the greatest syllable (of zeros in the smallest)".
+    fn extreme_total(&self, machine: &Machine) -> u64 {
         let a = u32::from(self.a.width);
-        let selected =
-            words.filter(|index| is_selected(machine.responses[*index], self.key, self.care));
-        let values = selected.map(|index| self.a.syllable().number(machine.words[index]));
+        let selected = machine
+            .words
+            .iter()
+            .zip(&machine.responses)
+            .filter(|(_, response)| is_selected(**response, self.key, self.care));
+        let values = selected.map(|(word, _)| self.a.syllable().number(*word));
         let marks = if self.kind == GREATEST {
             values.max()
         } else {
@@ -429,33 +429,21 @@ pub fn start(machine: &Machine, held: &mut Option<Job>, wish: &Job) -> Result<()
     Ok(())
 }
 
-/// The held job, if it is one a step may take, and the words it concerns. 25: "step
-/// while none is"; 13 goes before it, as before all that stand in the place of 8.
-fn held_job(
-    machine: &Machine,
-    held: &Option<Job>,
-    named: Option<Run>,
-) -> Result<(Job, Range<usize>), Refusal> {
+/// The held job, if it is one a step may take. 25: "step while none is".
+fn held_job(machine: &Machine, held: &Option<Job>) -> Result<Job, Refusal> {
     machine.check()?;
-    let words = concerned(machine.words.len(), named)?;
     match held {
-        Some(job) => job.check(machine.width).map(|()| (*job, words)),
+        Some(job) => job.check(machine.width).map(|()| *job),
         None => refused(25),
     }
 }
 
 /// One job step: the command of the job's place, given as a pulse. "A job that
-/// has given its last pulse is no longer held." A run other than that of the step
-/// before is taken too (ours: no number is given for it; what "demand 3 needs" is the
-/// host's to keep).
-pub fn step(
-    machine: &mut Machine,
-    held: &mut Option<Job>,
-    named: Option<Run>,
-) -> Result<Step, Refusal> {
-    let (job, words) = held_job(machine, held, named)?;
+/// has given its last pulse is no longer held."
+pub fn step(machine: &mut Machine, held: &mut Option<Job>) -> Result<Step, Refusal> {
+    let job = held_job(machine, held)?;
     let (lines, command) = job.command();
-    let answer = apply(&WIDE, machine, &command, lines, words);
+    let answer = apply(&WIDE, machine, &command, lines);
     *held = job.advanced(answer.count);
     Ok(Step {
         lines,
@@ -466,15 +454,15 @@ pub fn step(
 }
 
 /// The pulses of a job that stands at its first place, without running it; at
-/// another place 25. With a run, those it takes if each step names that run.
-pub fn total(machine: &Machine, held: &Option<Job>, named: Option<Run>) -> Result<u64, Refusal> {
-    let (job, words) = held_job(machine, held, named)?;
+/// another place 25.
+pub fn total(machine: &Machine, held: &Option<Job>) -> Result<u64, Refusal> {
+    let job = held_job(machine, held)?;
     if job != job.at_first_place() {
         return refused(25);
     }
     Ok(match job.kind {
         SCALED => 2 * u64::from(job.a.width.min(job.p.width)),
         PRODUCT => job.product_total(),
-        _ => job.extreme_total(machine, words),
+        _ => job.extreme_total(machine),
     })
 }

@@ -10,7 +10,6 @@ pub mod image;
 pub mod jobs;
 pub mod line;
 pub mod machine;
-pub mod modules;
 pub mod panel;
 pub mod pulse;
 pub mod resolve;

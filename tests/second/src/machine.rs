@@ -1,6 +1,5 @@
 //! The machine: n words of N bits with 8 response bits each, and the numbers
-//! 1 to 3 that every call but the reading of an image checks first, over all words
-//! whatever run of modules the call names.
+//! 1 to 3 that every call but the reading of an image checks first.
 
 /// The number given when a call is turned down, and what it also answers: the
 /// lowest wrong word for number 3, the place for number 9, the syllable for the

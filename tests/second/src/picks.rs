@@ -1,16 +1,14 @@
 //! Request e of document 02: ""matched" is said exactly when the search matches",
 //! and "Refusals: as for a search, with 7 for the word number". The answers of `why`
-//! lines are held against a search after them and the list of what it left. With request
-//! f 7 "then also means outside the run".
+//! lines are held against a search after them and the list of what it left.
 
-use crate::parts;
 use crate::told::Told;
 use processor::machine;
 
 /// Holds the `why` lines that `after` begins with against the search and the list
 /// that follow. The search's target is response bit `bit` alone, which then stands
 /// in matching words and in no others.
-pub fn hold(bit: u32, run: parts::Told, after: &[&Told]) -> Result<(), String> {
+pub fn hold(bit: u32, after: &[&Told]) -> Result<(), String> {
     let asked = after.iter().map_while(|why| Some((why, word_of(why)?)));
     let asked: Vec<_> = asked.collect();
     let (search, list) = match &after[asked.len()..] {
@@ -19,7 +17,7 @@ pub fn hold(bit: u32, run: parts::Told, after: &[&Told]) -> Result<(), String> {
     };
     let marks = marks_of(list, bit);
     for (why, word) in asked {
-        if !keeps(why, word, run, search, &marks) {
+        if !keeps(why, word, search, &marks) {
             return Err(format!("line {}: not what the search says", why.number));
         }
     }
@@ -33,13 +31,12 @@ fn word_of(told: &Told) -> Option<usize> {
 }
 
 /// Whether one answer is what the search says of that word.
-fn keeps(why: &Told, word: usize, run: parts::Told, search: &Told, marks: &[bool]) -> bool {
+fn keeps(why: &Told, word: usize, search: &Told, marks: &[bool]) -> bool {
     let answer = why.answer.as_deref().unwrap_or("");
     let searched = search.answer.as_deref().unwrap_or("");
     match marks.get(word) {
         _ if searched.starts_with("refused") => answer == searched,
         None => answer == "refused 7",
-        _ if !run.has(word) => answer == "refused 7",
         Some(true) => answer == "matched",
         Some(false) => answer.starts_with("not selected") || answer.starts_with("syllable"),
     }

@@ -1,16 +1,11 @@
 //! What a script's own comments promise, held against the answers: `# same A B`
 //! that the A-th and B-th commands after it answer the same, `# ends` that the
-//! five commands after it show a job from its start to its stated end (`# ends F C`
-//! in a run of modules),
+//! five commands after it show a job from its start to its stated end,
 //! `# stored` that the second command after it stores the bytes the first read,
 //! `# picked B` that the `why` lines after it say "matched" of the very words in
-//! which the search after them sets response bit B, as the `list` after it tells
-//! (`# picked B F C` in a run), `# stays F C A B` that the images which the A-th and
-//! B-th commands store are alike outside a run, and `# part F C A B` that the words of
-//! the run in the one are those of the other.
+//! which the search after them sets response bit B, as the `list` after it tells.
 
 use crate::ends;
-use crate::parts::{self, Told as Run};
 use crate::picks;
 use crate::told::Told;
 
@@ -19,11 +14,9 @@ type Verdict = Result<(), String>;
 /// A promise about the commands after it, which it counts from 0.
 enum Promise {
     Same(usize, usize),
-    Ends(Run),
+    Ends,
     Stored,
-    Picked(u32, Run),
-    Stays(Run, usize, usize),
-    Part(Run, usize, usize),
+    Picked(u32),
 }
 
 /// The promise a line makes, if it makes one.
@@ -35,15 +28,9 @@ fn promise_of(line: &[u8]) -> Option<Promise> {
     let place = |word: &str| word.parse::<usize>().ok()?.checked_sub(1);
     match text.trim_end().split(' ').collect::<Vec<_>>().as_slice() {
         ["#", "same", first, other] => Some(Promise::Same(place(first)?, place(other)?)),
-        ["#", "ends", run @ ..] => Some(Promise::Ends(Run::of(run)?)),
+        ["#", "ends"] => Some(Promise::Ends),
         ["#", "stored"] => Some(Promise::Stored),
-        ["#", "picked", bit, run @ ..] => Some(Promise::Picked(bit.parse().ok()?, Run::of(run)?)),
-        ["#", "stays", run @ .., first, other] => {
-            Some(Promise::Stays(Run::of(run)?, place(first)?, place(other)?))
-        }
-        ["#", "part", run @ .., first, other] => {
-            Some(Promise::Part(Run::of(run)?, place(first)?, place(other)?))
-        }
+        ["#", "picked", bit] => Some(Promise::Picked(bit.parse().ok()?)),
         _ => None,
     }
 }
@@ -62,17 +49,9 @@ fn keeps(promise: &Promise, after: &[&Told]) -> Verdict {
             [read, store, ..] => stored(read, store),
             _ => Ok(()),
         },
-        Promise::Stays(run, first, other) => match (after.get(*first), after.get(*other)) {
-            (Some(before), Some(end)) => parts::stays(*run, before, end),
-            _ => Ok(()),
-        },
-        Promise::Part(run, first, other) => match (after.get(*first), after.get(*other)) {
-            (Some(whole), Some(part)) => parts::is_part(*run, whole, part),
-            _ => Ok(()),
-        },
-        Promise::Picked(bit, run) => picks::hold(*bit, *run, after),
-        Promise::Ends(run) => match after {
-            [before, start, _, _, end, ..] => ends::hold(*run, before, start, end),
+        Promise::Picked(bit) => picks::hold(*bit, after),
+        Promise::Ends => match after {
+            [before, start, _, _, end, ..] => ends::hold(before, start, end),
             _ => Ok(()),
         },
     }

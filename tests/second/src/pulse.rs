@@ -1,11 +1,8 @@
-//! One pulse: its numbers, and how its lines work together; with request f of
-//! document 02 on the words of a run of modules alone.
+//! One pulse: its numbers, and how its lines work together.
 
 use crate::machine::{is_selected, is_stray, refused, Machine, Refusal};
-use crate::modules::{concerned, Run};
 use crate::panel::{Lines, Panel};
 use crate::syllable::{code_of, has_idle_one, syllables};
-use std::ops::Range;
 
 /// How one word is searched, written and added to. Each takes the word, the
 /// panel and the width.
@@ -22,21 +19,19 @@ pub struct Answer {
     pub read: u64,
 }
 
-/// One pulse, "checked for 1 to 7 in number order", and for 13 "after 6".
+/// One pulse, "checked for 1 to 7 in number order".
 pub fn pulse(
     way: &Way,
     machine: &mut Machine,
     panel: &Panel,
     lines: Lines,
-    named: Option<Run>,
 ) -> Result<Answer, Refusal> {
     machine.check()?;
     check_registers(machine, panel)?;
     check_codes(machine, panel, lines)?;
     check_lines(lines)?;
-    let words = concerned(machine.words.len(), named)?;
-    check_address(&words, panel, lines)?;
-    Ok(apply(way, machine, panel, lines, words))
+    check_address(machine, panel, lines)?;
+    Ok(apply(way, machine, panel, lines))
 }
 
 /// What is checked of a search raised alone: 1 to 5. It is one line, and none that
@@ -83,35 +78,21 @@ fn check_lines(lines: Lines) -> Result<(), Refusal> {
     Ok(())
 }
 
-/// 7: "read, write or add raised, address n or more". 02 f: it "then also means
-/// outside the run".
-fn check_address(words: &Range<usize>, panel: &Panel, lines: Lines) -> Result<(), Refusal> {
+/// 7: "read, write or add raised, address n or more".
+fn check_address(machine: &Machine, panel: &Panel, lines: Lines) -> Result<(), Refusal> {
     let uses_address = lines.read || lines.write || lines.add;
-    if uses_address && !has_word(words, panel.address) {
+    if uses_address && panel.address >= machine.words.len() as u64 {
         return refused(7);
     }
     Ok(())
 }
 
-/// Whether a number, which may be any below 2^64, is that of one of these words.
-pub fn has_word(words: &Range<usize>, number: u64) -> bool {
-    number >= words.start as u64 && number < words.end as u64
-}
-
 /// The pulse itself. "All results are worked out from the machine before the
-/// pulse." 02 f: "selection, count, resolution, changes .. then concern only those
-/// words .. and every other word and response stays".
-pub fn apply(
-    way: &Way,
-    machine: &mut Machine,
-    panel: &Panel,
-    lines: Lines,
-    words: Range<usize>,
-) -> Answer {
+/// pulse."
+pub fn apply(way: &Way, machine: &mut Machine, panel: &Panel, lines: Lines) -> Answer {
     let before = machine.clone();
     let mut answer = Answer { count: 0, read: 0 };
-    for index in words {
-        let word = &before.words[index];
+    for (index, word) in before.words.iter().enumerate() {
         let response = before.responses[index];
         let addressed = panel.address == index as u64;
         let selected = is_selected(response, panel.key, panel.care);

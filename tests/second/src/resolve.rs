@@ -1,30 +1,23 @@
 //! Resolution: "the lowest-numbered selected word, or none exactly if no word
-//! is selected". Resolving is no pulse and is checked for 1 to 3, and with request f
-//! of document 02 for 13, alone.
+//! is selected". Resolving is no pulse and is checked for 1 to 3 alone.
 
 use crate::machine::{is_selected, Machine, Refusal};
-use crate::modules::{concerned, Run};
 
-/// What both answer: the word found, if any, by its number in the array.
-type Resolved = Result<Option<usize>, Refusal>;
-
-/// The scan from the first word.
-pub fn scan(machine: &Machine, key: u8, care: u8, named: Option<Run>) -> Resolved {
+/// The scan from word 0.
+pub fn scan(machine: &Machine, key: u8, care: u8) -> Result<Option<usize>, Refusal> {
     machine.check()?;
-    for index in concerned(machine.words.len(), named)? {
-        if is_selected(machine.responses[index], key, care) {
+    for (index, response) in machine.responses.iter().enumerate() {
+        if is_selected(*response, key, care) {
             return Ok(Some(index));
         }
     }
     Ok(None)
 }
 
-/// The network. "Word numbers stay the array's."
-pub fn tree(machine: &Machine, key: u8, care: u8, named: Option<Run>) -> Resolved {
+/// The network.
+pub fn tree(machine: &Machine, key: u8, care: u8) -> Result<Option<usize>, Refusal> {
     machine.check()?;
-    let words = concerned(machine.words.len(), named)?;
-    let first = words.start;
-    Ok(halve(&machine.responses[words], first, key, care))
+    Ok(halve(&machine.responses, 0, key, care))
 }
 
 /// "The tree halves the words until one is left, and answers as a scan from

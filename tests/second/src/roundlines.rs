@@ -9,13 +9,13 @@ const MOST_ANSWERS: usize = 30;
 
 impl Writer {
     /// A response bit for the round and another for the faulty words.
-    pub fn round_bits(&mut self) -> (u64, u64) {
+    fn round_bits(&mut self) -> (u64, u64) {
         let x = self.rng.below(8);
         (x, (x + self.rng.between(1, 7)) % 8)
     }
 
     /// Some words get X, so that there is something to hand out.
-    pub fn mark(&mut self, x: u64, words: u64) {
+    fn mark(&mut self, x: u64, words: u64) {
         for _ in 0..words {
             let index = self.index();
             let response = values::byte(&mut self.rng) | (1 << x) as u8;

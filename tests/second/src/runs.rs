@@ -18,7 +18,6 @@
 
 mod ends;
 mod figures;
-mod parts;
 mod picks;
 mod player;
 mod promises;

@@ -1,8 +1,7 @@
 //! Scenes of a script: a few lines each that bring out one thing. A comment
 //! line `# same A B` promises that the answers of the A-th and B-th commands
 //! after it are the same; `# ends` that the five commands after it show a job
-//! from its start to its stated end, `# ends F C` in the run of C modules from
-//! module F on.
+//! from its start to its stated end.
 
 use crate::codes::{self, Codes};
 use crate::values;
@@ -16,11 +15,7 @@ impl Writer {
     /// One scene, after what may be out of order has been set right.
     pub fn scene(&mut self) {
         self.heal();
-        // A run of modules may be named for any scene; on a small machine there is one.
-        if self.rng.once_in(24) {
-            self.name_run();
-        }
-        match self.rng.below(208) {
+        match self.rng.below(160) {
             0..=6 => self.new_machine(),
             7..=10 => self.fill(),
             11..=24 => self.some_pulses(),
@@ -37,19 +32,18 @@ impl Writer {
             69..=78 => self.images(),
             79..=80 => self.turned_down(),
             81..=84 => self.single(),
-            85..=92 => self.bad_line(),
-            93..=97 => self.edge_of_a_range(),
-            98..=99 => self.edge_of_a_line(),
-            100..=101 => self.quiet_line(),
-            102..=108 => self.search_at_its_edge(),
-            109..=112 => self.every_way(),
-            113..=117 => self.wrong_search(),
-            118..=123 => self.wrong_alone(),
-            124..=128 => self.wrong_twice(),
-            129..=130 => self.wrong_on_wrong(),
-            131..=139 => self.asked_why(),
-            140..=143 => self.asked_in_vain(),
-            144..=171 => self.module_scene(),
+            85..=90 => self.bad_line(),
+            91..=95 => self.edge_of_a_range(),
+            96..=97 => self.edge_of_a_line(),
+            98..=99 => self.quiet_line(),
+            100..=106 => self.search_at_its_edge(),
+            107..=110 => self.every_way(),
+            111..=113 => self.wrong_search(),
+            114..=118 => self.wrong_alone(),
+            119..=122 => self.wrong_twice(),
+            123..=124 => self.wrong_on_wrong(),
+            125..=128 => self.asked_why(),
+            129..=130 => self.asked_in_vain(),
             _ => self.array_scene(),
         }
     }
@@ -65,9 +59,6 @@ impl Writer {
             Err(_) if self.rng.once_in(4) => self.new_machine(),
             Ok(()) if self.n() > 100 && self.rng.once_in(3) => self.new_machine(),
             _ => {}
-        }
-        if self.model.modules.is_some() && self.good_run().is_none() && !self.rng.once_in(4) {
-            self.say("modules all");
         }
         let panel = self.model.panel;
         let registers = [

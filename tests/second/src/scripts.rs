@@ -8,7 +8,6 @@ mod changes;
 mod codes;
 mod imagelines;
 mod joblines;
-mod modulelines;
 mod rng;
 mod roundlines;
 mod scenes;

@@ -7,7 +7,6 @@ use processor::array::Array;
 use processor::console::Console;
 use processor::line::{read_line, Line, LONGEST};
 use processor::machine::Machine;
-use processor::modules::Run;
 use std::collections::BTreeMap;
 
 mod arrayfacts;
@@ -18,8 +17,6 @@ mod jobfacts;
 mod jobneeds;
 pub mod jobreasons;
 mod meetings;
-mod modulefacts;
-mod moduleneeds;
 mod needed;
 mod picked;
 mod reasons;
@@ -58,10 +55,6 @@ pub struct Tally {
     course: Course,
     /// What is on its way to be held against a search.
     picked: Option<Picked>,
-    /// The run that the last step of the held job named, if it had one.
-    stepped: Option<Option<Run>>,
-    /// The run of the last show.
-    shown: Option<Option<Run>>,
 }
 
 impl Tally {
@@ -72,8 +65,6 @@ impl Tally {
         self.round = None;
         self.course = Course::default();
         self.picked = None;
-        self.stepped = None;
-        self.shown = None;
         while let Ok(Some(line)) = read_line(&mut input) {
             self.line(&mut console, &line);
         }
@@ -91,7 +82,6 @@ impl Tally {
             self.count(format!("line: {form}"));
         }
         let words = line.words();
-        let run = console.modules;
         let mut facts = Facts::default();
         if !line.too_long {
             facts.before(console, &words);
@@ -115,7 +105,6 @@ impl Tally {
         self.follow_operations(&words, &answer);
         self.follow_both(console, &words, &answer);
         self.follow_picked(&words, &answer);
-        self.follow_runs(run, console, &words, &answer);
     }
 
     /// The command's name and how it went.

@@ -45,18 +45,6 @@ pub fn any_size(rng: &mut Rng) -> usize {
     }
 }
 
-/// A number of words at or near an edge of 128-word modules: most often of two or three
-/// of them, since a script of larger ones is slow.
-pub fn module_size(rng: &mut Rng) -> usize {
-    match rng.below(24) {
-        0 => rng.pick(&[1, 126, 127, 128]),
-        1 => rng.pick(&[513, 640, 1023, 1023, 1024, 1024]),
-        2..=4 => rng.between(129, 400) as usize,
-        5..=8 => rng.pick(&[384, 385]),
-        _ => rng.pick(&[127, 128, 129, 130, 200, 255, 256, 257, 258, 300]),
-    }
-}
-
 /// A number of words for an array of three-state cells: few, since its host
 /// writes them one by one, and now and then at an edge.
 pub fn array_size(rng: &mut Rng) -> usize {

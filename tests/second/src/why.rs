@@ -1,12 +1,11 @@
 //! Request e of document 02, "Why was she not picked?": why a search under the
-//! panel matches a word or doesn't, with request f a search in a run of modules. It is
-//! found by going down the cells of the plain machine with their statuses.
+//! panel matches a word or doesn't. It is found by going down the cells of the
+//! plain machine with their statuses.
 
 use crate::cells::{pass, wanted, Status};
 use crate::machine::{bit, refused, Machine, Refusal};
-use crate::modules::{concerned, Run};
 use crate::panel::Panel;
-use crate::pulse::{check_search, has_word};
+use crate::pulse::check_search;
 use crate::syllable::{code_at, syllables, Code, Syllable};
 
 /// "Matched; or not selected, with the lowest response bit that differs; or the
@@ -22,17 +21,10 @@ pub enum Reason {
 
 /// "For a machine, a panel and a word number." "Refusals: as for a search, with 7
 /// for the word number." 6 and the panel's address have no part in it: a search
-/// alone is one line, and one that uses no address. 02 f: 13 goes before 7, which
-/// "then also means outside the run".
-pub fn why(
-    machine: &Machine,
-    panel: &Panel,
-    word: u64,
-    named: Option<Run>,
-) -> Result<Reason, Refusal> {
+/// alone is one line, and one that uses no address.
+pub fn why(machine: &Machine, panel: &Panel, word: u64) -> Result<Reason, Refusal> {
     check_search(machine, panel)?;
-    let words = concerned(machine.words.len(), named)?;
-    if !has_word(&words, word) {
+    if word >= machine.words.len() as u64 {
         return refused(7);
     }
     Ok(reason(machine, panel, word as usize))

@@ -3,8 +3,7 @@
 //! settled against at any bit or equal to the bottom, and where a search is turned
 //! down. A comment line `# picked B` promises of the `why` lines after it, and of
 //! the search and the `list` that follow them, that "matched" was said of the very
-//! words in which the search sets response bit B; `# picked B F C` the same in the run of
-//! C modules from module F on.
+//! words in which the search sets response bit B.
 
 use crate::codes::{self, Wish};
 use crate::values;
@@ -122,7 +121,7 @@ impl Writer {
 
     /// A search fair in all registers, most often with a syllable that has to be larger
     /// or smaller, and a care of several bits.
-    pub fn load_search_to_ask(&mut self) {
+    fn load_search_to_ask(&mut self) {
         let width = self.width();
         let several = values::definition(&mut self.rng, width);
         let sdr = self.rng.pick(&[several, several, 0]);
@@ -145,7 +144,7 @@ impl Writer {
 
     /// A word by the panel's search, and its response by the key: for one of them so
     /// that it isn't selected, if care has a bit.
-    pub fn put_word_to_ask(&mut self, index: usize, wish: Wish, left_out: bool) {
+    fn put_word_to_ask(&mut self, index: usize, wish: Wish, left_out: bool) {
         let width = self.width();
         let word = codes::word_wished(&mut self.rng, &self.model.panel, width, wish);
         let word = self.hex(word);
@@ -182,14 +181,13 @@ impl Writer {
     /// Several words asked for, then the search with a target of one bit, and what it
     /// left. A held job that can't be stored would hide that. Words may be changed in
     /// the same pulse: those selected before it, though the target is often in care.
-    pub fn why_and_search(&mut self) {
+    fn why_and_search(&mut self) {
         if self.model.machine.check().is_ok() && !self.is_storable() {
             self.say("drop");
         }
         let target = self.rng.below(8);
         self.load("target", 1 << target);
-        let told = self.run_told();
-        self.say(format!("# picked {target}{told}"));
+        self.say(format!("# picked {target}"));
         self.ask_in_turn();
         let way = self.rng.pick(&["pulse", "cells"]);
         let lines = ["search", "search", "search multiwrite", "multiadd search"];
@@ -198,17 +196,8 @@ impl Writer {
         self.say("list");
     }
 
-    /// The first words, or as many as the promise reaches to, and one left to chance. In
-    /// a run those at its edges, in it and next to it.
+    /// The first words, or as many as the promise reaches to, and one left to chance.
     fn ask_in_turn(&mut self) {
-        if self.good_run().is_some() {
-            let words = self.run_words();
-            let any = self.word_by_run();
-            for word in [words.start, words.end - 1, words.end, any] {
-                self.say(format!("why {word}"));
-            }
-            return self.why();
-        }
         for word in 0..self.n().min(4) {
             self.say(format!("why {word}"));
         }
@@ -216,7 +205,7 @@ impl Writer {
     }
 
     /// One register of the panel gets a one at or above bit N.
-    pub fn load_stray_register(&mut self) {
+    fn load_stray_register(&mut self) {
         let width = self.width();
         if width >= 64 {
             return;

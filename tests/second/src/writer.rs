@@ -77,13 +77,9 @@ impl Writer {
         self.model.machine.width
     }
 
-    /// A number of a word, n-1 often among them, and now and then n; with a run named,
-    /// most often one by that run.
+    /// A number of a word, n-1 often among them, and now and then n.
     pub fn index(&mut self) -> u64 {
         let n = self.n() as u64;
-        if self.good_run().is_some() && !self.rng.once_in(3) {
-            return self.word_by_run().min(n);
-        }
         let any = self.rng.below(n);
         if self.rng.once_in(40) {
             return n;
@@ -91,12 +87,9 @@ impl Writer {
         self.rng.pick(&[0, n.saturating_sub(1), any, any, any])
     }
 
-    /// An address, at its edges too, and at those of the run named.
+    /// An address, at its edges too.
     pub fn address(&mut self) -> u64 {
         let n = self.n() as u64;
-        if self.good_run().is_some() && self.rng.once_in(2) {
-            return self.word_by_run();
-        }
         match self.rng.below(12) {
             0 => n,
             1 => u64::MAX,

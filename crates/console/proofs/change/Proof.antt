@@ -26,17 +26,13 @@ returns-6 : tie.Need-returns-6
 returns-6 c = let a = c.before.before.before.before.before.before.before.before.before.before.before.before.before.before.before.args in change_arm (desk a.board a.words.now a.responses.now a.bytes.now) a.name.now (words_of a.rest.now) c.before.before.before.before.before.before.before.before.which.result c.before.before.before.before.before.before.before.before.which.ensures 5 (omega arith) _ _ _ _ c.before.before.before.before.run.ensures.0 c.before.before.before.before.run.ensures.1.0 c.before.before.before.before.run.ensures.1.1 refl
 
 returns-7 : tie.Need-returns-7
-returns-7 c = let a = c.before.before.before.before.before.before.before.before.before.args in change_arm (desk a.board a.words.now a.responses.now a.bytes.now) a.name.now (words_of a.rest.now) c.before.before.which.result c.before.before.which.ensures 6 (omega arith) _ _ _ _ c.name-run.ensures refl refl refl
-
-returns-8 : tie.Need-returns-8
-returns-8 c = let a = c.before.before.before.before.before.before.before.before.before.before.before.before.before.before.before.before.before.before.args in change_other (desk a.board a.words.now a.responses.now a.bytes.now) a.name.now (words_of a.rest.now) c.before.before.before.before.before.before.before.before.before.before.before.which.result c.before.before.before.before.before.before.before.before.before.before.before.which.ensures (next_up 6 _ (next_up 5 _ (next_up 4 _ (next_up 3 _ (next_up 2 _ (next_up 1 _ (not_zero _ c.before.before.before.before.before.before.before.before.before.before.match.rest.0.0.0.0.0.0.1) c.before.before.before.before.before.before.before.before.before.before.match.rest.0.0.0.0.0.1) c.before.before.before.before.before.before.before.before.before.before.match.rest.0.0.0.0.1) c.before.before.before.before.before.before.before.before.before.before.match.rest.0.0.0.1) c.before.before.before.before.before.before.before.before.before.before.match.rest.0.0.1) c.before.before.before.before.before.before.before.before.before.before.match.rest.0.1) c.before.before.before.before.before.before.before.before.before.before.match.rest.1) _ _ _ _ c.before.before.before.before.before.before.mark.ensures.0 c.before.before.before.before.before.before.mark.ensures.1.0 c.before.before.before.before.before.before.mark.ensures.1.1.0 c.before.before.before.before.before.before.mark.ensures.1.1.1
+returns-7 c = let a = c.before.before.before.before.before.before.before.before.before.before.before.before.before.before.before.before.before.before.args in change_other (desk a.board a.words.now a.responses.now a.bytes.now) a.name.now (words_of a.rest.now) c.before.before.before.before.before.before.before.before.before.before.before.which.result c.before.before.before.before.before.before.before.before.before.before.before.which.ensures (next_up 5 _ (next_up 4 _ (next_up 3 _ (next_up 2 _ (next_up 1 _ (not_zero _ c.before.before.before.before.before.before.before.before.before.before.match.rest.0.0.0.0.0.1) c.before.before.before.before.before.before.before.before.before.before.match.rest.0.0.0.0.1) c.before.before.before.before.before.before.before.before.before.before.match.rest.0.0.0.1) c.before.before.before.before.before.before.before.before.before.before.match.rest.0.0.1) c.before.before.before.before.before.before.before.before.before.before.match.rest.0.1) c.before.before.before.before.before.before.before.before.before.before.match.rest.1) _ _ _ _ c.before.before.before.before.before.before.mark.ensures.0 c.before.before.before.before.before.before.mark.ensures.1.0 c.before.before.before.before.before.before.mark.ensures.1.1.0 c.before.before.before.before.before.before.mark.ensures.1.1.1
 
 pub change-spec : {M : Type 1} → statement M
 change-spec =
     tie.close
     (tie.spec
     (λ c. search rules)
-    (λ c κs. search rules)
     (λ c κs. search rules)
     (λ c κs. search rules)
     (λ c κs. search rules)
@@ -57,8 +53,7 @@ change-spec =
     (λ c. search rules)
     (λ c. search rules)
     returns-6
-    returns-7
     (λ c. search rules)
     (λ c. search rules)
     (λ c. search rules)
-    returns-8)
+    returns-7)

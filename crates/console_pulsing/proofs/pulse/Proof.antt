@@ -9,7 +9,7 @@ returns : tie.Need-returns
 returns c =
     let n = c.before.before in
     let a = n.before.before.before.before.args in
-    pulse_bad a.board.scope _ _ n.read-lines.ensures (machine a.board.width a.words.now a.responses.now) a.board.panel c.enum_told.given.1
+    pulse_bad _ _ n.read-lines.ensures (machine a.board.width a.words.now a.responses.now) a.board.panel c.enum_told.given.1
 
 returns-2 : tie.Need-returns-2
 returns-2 c =
@@ -17,7 +17,7 @@ returns-2 c =
     let l = s.before.before.before.before.before in
     let n = l.before.before in
     let a = n.before.before.before.before.args in
-    pulse_told a.board.scope _ _ n.read-lines.ensures (machine a.board.width a.words.now a.responses.now) a.board.panel _ l.named.given.1 _ _ _ _ s.wide-pulse.ensures.0 c.pulsed.ensures s.wide-pulse.ensures.1.0 s.wide-pulse.ensures.1.1
+    pulse_told _ _ n.read-lines.ensures (machine a.board.width a.words.now a.responses.now) a.board.panel _ l.named.given.1 _ _ _ _ s.pulse.ensures.0 c.pulsed.ensures s.pulse.ensures.1.0 s.pulse.ensures.1.1
 
 pub pulse-spec : {M : Type 1} → statement M
 pulse-spec =

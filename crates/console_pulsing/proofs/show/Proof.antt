@@ -11,14 +11,14 @@ use Rattle.console_pulsing.proofs.show.Tie as tie
 returns : tie.Need-returns
 returns c =
     let a = c.before.before.before.before.before.before.args in
-    show_bad a.board.scope (words_of a.rest.now) (machine a.board.width a.words.now a.responses.now) _ c.before.read.ensures.0 (not-true _ c.if1.true)
+    show_bad (words_of a.rest.now) (machine a.board.width a.words.now a.responses.now) _ c.before.read.ensures.0 (not-true _ c.if1.true)
 
 returns-2 : tie.Need-returns-2
 returns-2 c =
     let n = c.before.before.before.before.before in
     let a = n.before.before.before.before.before.args in
     let e = not-false _ c.before.before.before.before.if1.false in
-    show_found a.board.scope (words_of a.rest.now) (machine a.board.width a.words.now a.responses.now) _ n.read.ensures.0 e n.read.result.values (n.read.ensures.1 (omega arith) e) _ c.before.before.response-bit.ensures _ _ c.before.show.ensures c.resolved.ensures
+    show_found (words_of a.rest.now) (machine a.board.width a.words.now a.responses.now) _ n.read.ensures.0 e n.read.result.values (n.read.ensures.1 (omega arith) e) _ c.before.before.response-bit.ensures _ _ c.before.show.ensures c.resolved.ensures
 
 pub show-spec : {M : Type 1} → statement M
 show-spec =

@@ -10,13 +10,13 @@ use Rattle.console_pulsing.proofs.tree.Tie as tie
 returns : tie.Need-returns
 returns c =
     let a = c.before.before.before.before.before.args in
-    resolve_bad a.board.scope (words_of a.rest.now) (machine a.board.width a.words.now a.responses.now) _ c.before.none.ensures a.board.panel (not-true _ c.if1.true)
+    resolve_bad (words_of a.rest.now) (machine a.board.width a.words.now a.responses.now) _ c.before.none.ensures a.board.panel (not-true _ c.if1.true)
 
 returns-2 : tie.Need-returns-2
 returns-2 c =
     let n = c.before.before.before.before in
     let a = n.before.before.before.before.args in
-    resolve_found a.board.scope (words_of a.rest.now) (machine a.board.width a.words.now a.responses.now) _ n.none.ensures a.board.panel (not-false _ c.before.before.before.if1.false) _ _ c.before.network.ensures c.resolved.ensures
+    resolve_found (words_of a.rest.now) (machine a.board.width a.words.now a.responses.now) _ n.none.ensures a.board.panel (not-false _ c.before.before.before.if1.false) _ _ c.before.network.ensures c.resolved.ensures
 
 pub tree-spec : {M : Type 1} → statement M
 tree-spec =

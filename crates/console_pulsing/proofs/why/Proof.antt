@@ -12,14 +12,14 @@ use Rattle.console_pulsing.proofs.why.Tie as tie
 returns : tie.Need-returns
 returns c =
     let a = c.before.before.before.before.before.before.args in
-    why_bad a.board.scope (words_of a.rest.now) (machine a.board.width a.words.now a.responses.now) _ c.before.read.ensures.0 a.board.panel (not-true _ c.if1.true)
+    why_bad (words_of a.rest.now) (machine a.board.width a.words.now a.responses.now) _ c.before.read.ensures.0 a.board.panel (not-true _ c.if1.true)
 
 returns-2 : tie.Need-returns-2
 returns-2 c =
     let n = c.before.before.before.before in
     let a = n.before.before.before.before.before.args in
     let e = not-false _ c.before.before.before.if1.false in
-    why_told a.board.scope (words_of a.rest.now) (machine a.board.width a.words.now a.responses.now) _ n.read.ensures.0 a.board.panel e n.read.result.values (n.read.ensures.1 (omega arith) e) _ refl c.explain.result c.explain.ensures
+    why_told (words_of a.rest.now) (machine a.board.width a.words.now a.responses.now) _ n.read.ensures.0 a.board.panel e n.read.result.values (n.read.ensures.1 (omega arith) e) _ refl c.explain.result c.explain.ensures
 
 pub why-spec : {M : Type 1} → statement M
 why-spec =

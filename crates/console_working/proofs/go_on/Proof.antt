@@ -7,8 +7,8 @@ use borrow.Author.Rules.{rules}
 use Rattle.console_working.proofs.go_on.Statement.{statement}
 use Rattle.console_working.proofs.go_on.Tie as tie
 
-add-t8 : tie.Need-overflow-add-t8
-add-t8 c = record { fits = below _ _ _ _ c.before.before.before.before.before.before.to_the_end.ensures.0 (omega arith) }
+add-t7 : tie.Need-overflow-add-t7
+add-t7 c = record { fits = below _ _ _ c.before.before.before.before.before.before.to_the_end.ensures.0 (omega arith) }
 
 returns : tie.Need-returns
 returns c =
@@ -23,7 +23,7 @@ go-on-spec =
     (λ c. search rules)
     (λ c κs. search rules)
     (λ c κs. search rules)
-    add-t8
+    add-t7
     (λ c. search rules)
     (λ c. search rules)
     returns)

@@ -22,7 +22,7 @@ returns-2 c =
     let a = c.before.before.before.before.before.before.before.before.before.before.before.before.before.before.step in
     let g = c.before.before.before.before.go_on in
     let told = c.before.before.before.before.before.before.before.before.first.given.1 in
-    ran.run_gave t.board (words_of t.rest.now) s line.result line.ensures (answers.is_right line.result c.before.before.before.before.before.before.before.before.before.before.before.before.before.before.before.before.before.if1.false) a.result a.ensures.0 _ _ _ told _ (taken t.board.scope t.board.width t.words.now t.responses.now t.board.held a.result a.ensures.0 _ _ a.ensures.1.0 a.ensures.1.1 _ _ _ told) g.result _ _ g.ensures.0 g.ensures.1.0 g.ensures.1.1.0 g.ensures.1.1.1
+    ran.run_gave t.board (words_of t.rest.now) s line.result line.ensures (answers.is_right line.result c.before.before.before.before.before.before.before.before.before.before.before.before.before.before.before.before.before.if1.false) a.result a.ensures.0 _ _ _ told _ (taken t.board.width t.words.now t.responses.now t.board.held a.result a.ensures.0 _ _ a.ensures.1.0 a.ensures.1.1 _ _ _ told) g.result _ _ g.ensures.0 g.ensures.1.0 g.ensures.1.1.0 g.ensures.1.1.1
 
 returns-3 : tie.Need-returns-3
 returns-3 c =

@@ -10,7 +10,7 @@ returns c =
     let t = c.before.before.before.before.before.args in
     let s = state t.board.width t.words.now t.responses.now t.board.held in
     let line = c.before.none in
-    answers.total_bad t.board.scope (words_of t.rest.now) s line.result line.ensures (answers.is_wrong line.result c.if1.true)
+    answers.total_bad (words_of t.rest.now) s line.result line.ensures (answers.is_wrong line.result c.if1.true)
 
 returns-2 : tie.Need-returns-2
 returns-2 c =
@@ -18,7 +18,7 @@ returns-2 c =
     let s = state t.board.width t.words.now t.responses.now t.board.held in
     let line = c.before.before.before.before.before.none in
     let a = c.before.before.before.total in
-    answers.total_pulses t.board.scope (words_of t.rest.now) s line.result line.ensures (answers.is_right line.result c.before.before.before.before.if1.false) a.result a.ensures _ c.before.total2.given.1
+    answers.total_pulses (words_of t.rest.now) s line.result line.ensures (answers.is_right line.result c.before.before.before.before.if1.false) a.result a.ensures _ c.before.total2.given.1
 
 returns-3 : tie.Need-returns-3
 returns-3 c =
@@ -26,7 +26,7 @@ returns-3 c =
     let s = state t.board.width t.words.now t.responses.now t.board.held in
     let line = c.before.before.before.before.before.none in
     let a = c.before.before.before.total in
-    answers.total_refused t.board.scope (words_of t.rest.now) s line.result line.ensures (answers.is_right line.result c.before.before.before.before.if1.false) a.result a.ensures _ c.before.total3.given.1
+    answers.total_refused (words_of t.rest.now) s line.result line.ensures (answers.is_right line.result c.before.before.before.before.if1.false) a.result a.ensures _ c.before.total3.given.1
 
 pub total-spec : {M : Type 1} → statement M
 total-spec =

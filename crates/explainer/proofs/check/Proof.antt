@@ -4,9 +4,6 @@ use borrow.Author.Rules.{rules}
 use Rattle.explainer.proofs.check.Statement.{statement}
 use Rattle.explainer.proofs.check.Tie as tie
 
-raising-requires : tie.Need-raising-requires
-raising-requires c κs = search rules
-
 check-requires : tie.Need-check-requires
 check-requires c κs = search rules
 
@@ -18,7 +15,7 @@ in-order-requires c κs = search rules
 
 returns : tie.Need-returns
 unfolding explain_check
-returns c = rw (c.before.before.before.check.ensures, c.before.before.before.before.raising.ensures, c.before.refuse.ensures) at c.in_order.ensures
+returns c = rw (c.before.before.before.check.ensures, c.before.refuse.ensures) at c.in_order.ensures
 
 pub check-spec : {M : Type 1} → statement M
-check-spec = tie.close (tie.spec raising-requires check-requires refuse-requires in-order-requires returns)
+check-spec = tie.close (tie.spec check-requires refuse-requires in-order-requires returns)

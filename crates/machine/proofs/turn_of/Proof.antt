@@ -57,14 +57,10 @@ returns-15 c = turns c.enum-told15.given.1
 returns-16 : tie.Need-returns-16
 returns-16 c = turns c.enum-told16.given.1
 
-returns-17 : tie.Need-returns-17
-returns-17 c = turns c.enum-told17.given.1
-
 pub turn-of-spec : {M : Type 1} → statement M
 turn-of-spec =
     tie.close
     (tie.spec
-    (λ c. search rules)
     (λ c. search rules)
     (λ c. search rules)
     (λ c. search rules)
@@ -96,5 +92,4 @@ turn-of-spec =
     returns-13
     returns-14
     returns-15
-    returns-16
-    returns-17)
+    returns-16)

@@ -1,7 +1,6 @@
 //! What stands before one command and what comes of it.
 
 use super::jobreasons::Reason;
-use super::modulefacts::{named_numbers, part_of, Standing};
 use super::reasons::{code_reasons, pulse_numbers};
 use processor::choices::COMMANDS;
 use processor::console::Console;
@@ -25,12 +24,6 @@ pub struct Facts {
     /// The numbers of the job held at a start.
     pub held: Option<Vec<&'static str>>,
     pub kind_and_phase: Option<(u8, u8)>,
-    /// How the run stands that a line names which names one.
-    pub standing: Option<Standing>,
-    /// The lines of a pulse.
-    pub lines: Lines,
-    /// Facts that count only if the answer is this refusal.
-    pub if_refused: Vec<(&'static str, String)>,
 }
 
 impl Facts {
@@ -46,10 +39,8 @@ impl Facts {
             [b"room", size] => self.before_room(console, size),
             [b"fit", room, other, digits] => self.before_fit(room, other, digits),
             [b"search3" | b"read3" | b"write3", ..] => self.before_operation(&console.array, words),
-            [b"resolve" | b"tree"] => self.machine_numbers = named_numbers(console),
             _ => {}
         }
-        self.before_named(console, words);
     }
 
     /// A fact that counts only if the command is accepted.
@@ -64,7 +55,6 @@ impl Facts {
         }
         let name = String::from_utf8_lossy(words.first().unwrap_or(&&b""[..])).into_owned();
         self.after_judged(&name, answer);
-        self.after_named(&name, answer);
         match words {
             [b"pulse" | b"cells", names @ ..] if accepted && names.contains(&&b"search"[..]) => {
                 self.after_search(answer);
@@ -99,16 +89,12 @@ impl Facts {
         };
         let way = String::from_utf8_lossy(way);
         let (machine, panel) = (&console.machine, &console.panel);
-        self.lines = lines;
-        let numbers = pulse_numbers(console, lines);
+        let numbers = pulse_numbers(machine, panel, lines);
         for (at, first) in numbers.iter().enumerate() {
             for other in &numbers[at + 1..] {
                 self.found
                     .push(format!("numbers {first} and {other} at once"));
             }
-        }
-        if let [first, other] = numbers.as_slice() {
-            self.found.push(format!("{first} and {other} at {way}"));
         }
         if numbers == [4] {
             self.only_stray(&way, console, lines);
@@ -121,15 +107,6 @@ impl Facts {
             .push(format!("{way}: width {}", machine.width));
         self.held_back
             .push(format!("{way}: n {}", machine.words.len()));
-        // Where it is taken it concerns the words of the run alone.
-        let part;
-        let console = if numbers.is_empty() && console.modules.is_some() {
-            part = part_of(console);
-            &part
-        } else {
-            console
-        };
-        let machine = &console.machine;
         self.selected = selected_of(machine, panel.key, panel.care);
         let share = share_of(self.selected, machine.words.len());
         self.held_back.push(format!("selected: {share}"));

@@ -5,7 +5,6 @@ use super::jobreasons::{
     numbers_of, record_reasons, total_reasons, unused_reasons, used_reasons, NONE_IS_HELD,
     ONE_IS_HELD, UNKNOWN_KIND,
 };
-use super::modulefacts::{concerned, named_numbers};
 use super::reasons::machine_numbers;
 use processor::console::Console;
 use processor::image::compose;
@@ -59,10 +58,7 @@ impl Facts {
     }
 
     pub fn before_held(&mut self, console: &Console, name: &[u8]) {
-        self.machine_numbers = match name {
-            b"step" | b"run" | b"total" => named_numbers(console),
-            _ => machine_numbers(&console.machine),
-        };
+        self.machine_numbers = machine_numbers(&console.machine);
         let width = console.machine.width;
         match &console.job {
             Some(job) => {
@@ -106,7 +102,7 @@ impl Facts {
     }
 
     pub fn before_show(&mut self, console: &Console, x: &[u8]) {
-        self.machine_numbers = named_numbers(console);
+        self.machine_numbers = machine_numbers(&console.machine);
         if number(x).map_or(false, |x| x > 7) {
             self.reasons.push(("23", "X above 7"));
         }
@@ -117,7 +113,7 @@ impl Facts {
             (Some(x), Some(f), Some(word)) => (x, f, word),
             _ => return,
         };
-        self.machine_numbers = named_numbers(console);
+        self.machine_numbers = machine_numbers(&console.machine);
         if x > 7 {
             self.reasons.push(("23", "X above 7"));
         }
@@ -127,17 +123,12 @@ impl Facts {
         if x == f {
             self.reasons.push(("24", "X equal to F"));
         }
-        let responses = &console.machine.responses;
-        let has = |at: &usize| {
-            responses
-                .get(*at)
-                .map_or(false, |r| x < 8 && (r >> x) & 1 == 1)
-        };
-        let shown = concerned(console).find(has);
-        // Where 13 is given no word would be shown, and 11 beside others tells nothing.
-        let no_run = self.machine_numbers.contains(&13);
-        let no_run = no_run && (!self.reasons.is_empty() || self.machine_numbers != [13]);
-        if shown.map(|at| at as u64) != Some(word) && !no_run {
+        let shown = console
+            .machine
+            .responses
+            .iter()
+            .position(|r| x < 8 && (r >> x) & 1 == 1);
+        if shown.map(|at| at as u64) != Some(word) {
             for number in numbers_of(&self.reasons) {
                 self.found.push(format!("numbers {number} and 11 at once"));
             }
@@ -172,9 +163,6 @@ impl Facts {
         let numbers = numbers_of(&self.reasons);
         match (self.machine_numbers.as_slice(), numbers.as_slice()) {
             ([], [only]) if given == *only => self.only(name),
-            ([first, other], []) if given.split(' ').next() == Some(&first.to_string()) => {
-                self.found.push(format!("{first} and {other} at {name}"));
-            }
             ([], [first, other]) if given == *first => {
                 self.found.push(format!("{first} and {other} at {name}"));
             }

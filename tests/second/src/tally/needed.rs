@@ -3,7 +3,6 @@
 
 use super::comparing::{fate, BESIDE, COMPARING, GAPS, STANDINGS};
 use super::meetings::{ASKED, MEETINGS};
-use super::modulefacts::GIVEN_WRONGLY;
 use super::reasons::CODE_REASONS;
 use super::whyfacts::ANOTHER;
 use processor::panel::LINE_NAMES;
@@ -299,7 +298,6 @@ pub fn needed() -> Vec<(String, u64)> {
     needs.images();
     needs.array();
     needs.why();
-    needs.modules();
     for name in NAMED {
         needs.add(OFTEN, name);
     }
@@ -309,8 +307,7 @@ pub fn needed() -> Vec<(String, u64)> {
     needs.0
 }
 
-/// What may not come: an answer to `why` that isn't the one found from document 01, and
-/// 13 given or not given against request f.
-pub fn unwanted() -> [&'static str; 2] {
-    [ANOTHER, GIVEN_WRONGLY]
+/// What may not come: an answer to `why` that isn't the one found from document 01.
+pub fn unwanted() -> [&'static str; 1] {
+    [ANOTHER]
 }

@@ -2,9 +2,7 @@
 //! down for, and all the reasons why number 5 would be given for a search: each by
 //! itself, so that it is seen which were met alone and which together.
 
-use super::modulefacts::{concerned, named_numbers};
 use processor::array::Array;
-use processor::console::Console;
 use processor::machine::{bit, is_stray, Machine, MOST_BITS, MOST_WORDS};
 use processor::panel::{Lines, Panel};
 use processor::syllable::{code_of, has_idle_one, syllables, Syllable};
@@ -31,13 +29,8 @@ pub fn machine_numbers(machine: &Machine) -> Vec<u8> {
     numbers.map(|(number, _)| number).collect()
 }
 
-/// In the order in which they are judged: 13 after 6. Where 13 is given, 7 is for an
-/// address past the last word.
-pub fn pulse_numbers(console: &Console, lines: Lines) -> Vec<u8> {
-    let (machine, panel) = (&console.machine, &console.panel);
-    let words = concerned(console);
-    let outside = panel.address < words.start as u64 || panel.address >= words.end as u64;
-    let no_run = named_numbers(console).contains(&13);
+pub fn pulse_numbers(machine: &Machine, panel: &Panel, lines: Lines) -> Vec<u8> {
+    let n = machine.words.len();
     let width = machine.width;
     let registers = [
         panel.comp, panel.sdr, panel.sc1, panel.sc2, panel.sc3, panel.mor,
@@ -50,11 +43,10 @@ pub fn pulse_numbers(console: &Console, lines: Lines) -> Vec<u8> {
         registers.iter().any(|register| is_stray(*register, width)),
         lines.search && wrong,
         raised == 0 || raised > 2 || (lines.complement && raised > 1),
-        no_run,
-        addressed && outside,
+        addressed && panel.address >= n as u64,
     ];
     let mut numbers = machine_numbers(machine);
-    let others = [4, 5, 6, 13, 7].into_iter().zip(held).filter(|(_, so)| *so);
+    let others = (4..=7).zip(held).filter(|(_, so)| *so);
     numbers.extend(others.map(|(number, _)| number));
     numbers
 }

@@ -4,14 +4,12 @@
 //! that one, and any other answer is counted as such and may not come.
 
 use super::facts::Facts;
-use super::modulefacts::{concerned, named_numbers};
 use super::reasons::{code_reasons, machine_numbers};
 use super::whyparts::{parts, End, Part};
 use processor::console::Console;
 use processor::machine::{is_stray, ones, Machine, MOST_BITS};
 use processor::panel::Panel;
 use std::collections::BTreeSet;
-use std::ops::Range;
 
 /// The one thing that may not come.
 pub const ANOTHER: &str = "why: another answer than the one counted";
@@ -21,9 +19,6 @@ struct Asked<'a> {
     machine: &'a Machine,
     panel: &'a Panel,
     word: u64,
-    /// The words of the run, or all, and whether 13 is given for the run.
-    run: Range<usize>,
-    no_run: bool,
 }
 
 impl Facts {
@@ -41,8 +36,6 @@ impl Facts {
             machine: &console.machine,
             panel: &console.panel,
             word,
-            run: concerned(console),
-            no_run: named_numbers(console).contains(&13),
         };
         let mut facts = BTreeSet::new();
         if asked.facts(&mut facts) != answer {
@@ -128,11 +121,7 @@ impl Asked<'_> {
         let others = [
             (4, !self.stray_registers().is_empty()),
             (5, !codes.is_empty()),
-            (13, self.no_run),
-            (
-                7,
-                !(self.run.start as u64..self.run.end as u64).contains(&self.word),
-            ),
+            (7, self.word >= self.machine.words.len() as u64),
         ];
         let others = others.iter().filter(|(_, so)| *so);
         let mut numbers = machine_numbers(self.machine);

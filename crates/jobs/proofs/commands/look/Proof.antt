@@ -9,11 +9,8 @@ blank-requires c κs = search rules
 response-bit-requires : tie.Need-response-bit-requires
 response-bit-requires c κs = search rules
 
-raising-requires : tie.Need-raising-requires
-raising-requires c κs = search rules
-
 returns : tie.Need-returns
-returns c = rw (c.raising.ensures, c.before.response-bit.ensures, c.before.before.blank.ensures) refl
+returns c = rw (c.response-bit.ensures, c.before.blank.ensures) refl
 
 pub look_spec : {M : Type 1} → statement M
-look_spec = tie.close (tie.spec blank-requires response-bit-requires raising-requires returns)
+look_spec = tie.close (tie.spec blank-requires response-bit-requires returns)

@@ -33,16 +33,13 @@ shl-run c = search rules
 blank-requires : tie.Need-blank-requires
 blank-requires c κs = search rules
 
-raising-requires : tie.Need-raising-requires
-raising-requires c κs = search rules
-
 returns : tie.Need-returns
 returns c =
-    let t = c.before.before.before.before.before.before.before in
-    let u = c.before.before.before.before.before.before.response-bit in
-    let b = c.before.before.before.before.bit-of in
-    let l = c.before.before.low-bits in
-    rw (c.raising.ensures, c.before.blank.ensures)
+    let t = c.before.before.before.before.before.before in
+    let u = c.before.before.before.before.before.response-bit in
+    let b = c.before.before.before.bit-of in
+    let l = c.before.low-bits in
+    rw c.blank.ensures
     (phases.plus_is t.args.y u.result l.result b.result t.args.v t.args.s t.requires.1.0 t.requires.1.1 t.requires.1.2 u.ensures l.ensures b.ensures)
 
 pub plus-spec : {M : Type 1} → statement M
@@ -59,5 +56,4 @@ plus-spec =
     cast-run
     shl-run
     blank-requires
-    raising-requires
     returns)
