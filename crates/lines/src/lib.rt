@@ -1,11 +1,13 @@
-// Standard input, line by line: "bytes, split at newlines; a last line with no newline counts". Input is read only once every line
+// An input, line by line: "bytes, split at newlines; a last line with no newline counts". Input is read only once every line
 // that has come is taken, so a caller that answers each line before it asks for the next answers at once.
+#![tactic(auto)]
+
 ghost use Rattle.std.specs.Prelude.{true, ◌≡◌, ℕ, ◌≤◌, ◌<◌, List, [], ◌∷◌, ◌++◌, length};
 ghost use Rattle.lines.specs.Input as input;
 ghost use Rattle.lines.specs.Pieces as pieces;
 ghost use Rattle.lines.specs.Silence as silence;
 
-use libc::STDIN_FILENO;
+use std::io::Read;
 
 const NEWLINE: u8 = 10;
 
@@ -14,7 +16,7 @@ const SPACE: u8 = 32;
 const COMMENT: u8 = 35;
 
 // The bytes of the lent chunk that are read and not yet taken, and whether the input may have more.
-#[derive(Drop)]
+#[derive(Clone, Copy)]
 pub struct Reader {
     pub from: usize,
     pub to: usize,
@@ -22,7 +24,7 @@ pub struct Reader {
 }
 
 // A line: how many of its bytes are kept, whether it has more than fit, and whether it has a word, which may stand past those kept.
-#[derive(Drop)]
+#[derive(Clone, Copy)]
 pub struct Line {
     pub kept: usize,
     pub longer: bool,
@@ -30,7 +32,7 @@ pub struct Line {
 }
 
 // Where reading stands, the line so far, and whether it is whole.
-#[derive(Drop)]
+#[derive(Clone, Copy)]
 pub struct Got {
     pub reader: Reader,
     pub line: Line,
@@ -108,20 +110,13 @@ fn extend(line: Line, s: &[u8], kept: &mut [u8]) -> Line
     extended
 }
 
-// One read. An error counts as the end of the input. What is read, no contract can say.
-fn fill(chunk: &mut [u8]) -> Reader {
-    let got = libc::read(STDIN_FILENO, chunk);
-    if got <= 0 {
-        return Reader {
-            from: 0,
-            to: 0,
-            open: false,
-        };
-    }
+// One read. An error counts as the end of the input.
+fn fill<R: Read>(source: &mut R, chunk: &mut [u8]) -> Reader {
+    let to = source.read(chunk).unwrap_or(0);
     Reader {
         from: 0,
-        to: io::count(got, chunk),
-        open: true,
+        to,
+        open: to > 0,
     }
 }
 
@@ -154,7 +149,7 @@ fn take(line: Line, s: &[u8], from: usize, to: usize, kept: &mut [u8]) -> Got
 }
 
 // Takes what is left of the last read; where nothing is, reads once more. The end of the input ends the line.
-fn more(got: Got, chunk: &mut [u8], kept: &mut [u8]) -> Got
+fn more<R: Read>(source: &mut R, got: Got, chunk: &mut [u8], kept: &mut [u8]) -> Got
     ensures by_index { (lent t : List ℕ) → pieces.Holds lent t got.line kept.old → pieces.Holds lent (t ++ input.first_line got.reader chunk.old) result.line kept.new }
     ensures reader_value { input.Whole got.reader chunk.old → (result.reader ≡ input.behind_newline got.reader chunk.old) × ((result.whole ≡ true) × (chunk.new ≡ chunk.old)) }
 {
@@ -165,7 +160,7 @@ fn more(got: Got, chunk: &mut [u8], kept: &mut [u8]) -> Got
     if (from < to) & (to <= chunk.len()) {
         return take(line, chunk, from, to, kept);
     }
-    let filled = fill(chunk);
+    let filled = fill(source, chunk);
     Got {
         reader: filled,
         line,
@@ -176,7 +171,7 @@ fn more(got: Got, chunk: &mut [u8], kept: &mut [u8]) -> Got
 // The next line, its bytes from the start of `kept`. A line that is read to its newline already is taken without another read; of
 // any other the input decides. The first turn stands before the loop, for it alone takes what was read before. A proved loop has to
 // end, and nothing says that the input does, so it counts its turns down from a number that no run uses up.
-pub fn next(reader: Reader, chunk: &mut [u8], kept: &mut [u8]) -> Got
+pub fn next<R: Read>(source: &mut R, reader: Reader, chunk: &mut [u8], kept: &mut [u8]) -> Got
     ensures reader_value { input.Whole reader chunk.old → (result.reader ≡ input.behind_newline reader chunk.old) × ((result.line ≡ input.line_of (length kept.old) (input.first_line reader chunk.old)) × ((kept.new ≡ input.kept_of (input.first_line reader chunk.old) kept.old) × (chunk.new ≡ chunk.old))) }
     ensures by_index { (s : List ℕ) × (input.Taken (length kept.old) (input.first_line reader chunk.old) s result.line × (kept.new ≡ input.kept_of s kept.old)) }
 {
@@ -185,10 +180,10 @@ pub fn next(reader: Reader, chunk: &mut [u8], kept: &mut [u8]) -> Got
         line: empty(),
         whole: false,
     };
-    let mut got = more(begun, chunk, kept);
+    let mut got = more(source, begun, chunk, kept);
     let mut turns = u64::MAX;
     while turns > 0 && !got.whole {
-        got = more(got, chunk, kept);
+        got = more(source, got, chunk, kept);
         turns -= 1;
     }
     got

@@ -1,16 +1,15 @@
 -- Bytes put one after the other into a buffer that has room for them.
-use Prim.Native.Nat.{ℕ, zero, suc, ◌+◌, ◌-◌, ◌*◌, ◌/◌, ◌%◌, ◌^◌, ◌<◌, ◌≤◌}
-use mathlib.Core.Path.{◌≡◌, refl}
-use mathlib.Core.List.{List, [], ◌∷◌}
+use Prim.Native.Nat.{ℕ, zero, suc, ◌+◌, ◌*◌, ◌/◌, ◌%◌, ◌^◌, ◌<◌, ◌≤◌}
+use mathlib.Core.Path.{◌≡◌, refl, ap, sym, ◌∙◌}
+use mathlib.Core.List.{List, [], ◌∷◌, ◌++◌}
 use borrow.Author.Tests.{lt-ltb, le-ltb}
-use Rattle.io.specs.Digits.{hex_digit_ascii, last_digits, IsDigitCount}
 use Rattle.output.specs.Digits.{capital, hex_digits, decimal_digits}
 use native.Mathlib.Numerals.{add-one}
 use native.Mathlib.Omega.{arith}
 use lib.Pow.{pow-add}
-use mathlib.Core.Logic.{⊎_elim}
+use mathlib.Core.Logic.{◌⊎◌, inl, inr, ⊎_elim}
 use Rattle.laws.proofs.Digits.{tri}
-use native.Mathlib.Nat.{pow-suc, pow-le-pow_right, div-div-eq-div-mul, div-lt_iff_lt-mul, le-div_iff_mul-le}
+use native.Mathlib.Nat.{pow-suc, div-div-eq-div-mul, div-lt_iff_lt-mul}
 use lib.ListN.{length, drop, get_or, set}
 use lib.Seq.{sets, drop-cons, drop-length}
 
@@ -59,32 +58,29 @@ pub hex_none : (x : ℕ) → hex_digits 0 x ≡ []
 unfolding hex_digits
 hex_none x = refl
 
--- ---- the fewest digits are those of the definition
+-- ---- the digits of a number are those of its tenth, and its last one
 
-small_glyph : (d : ℕ) → d < 10 → hex_digit_ascii d ≡ 48 + d
-small_glyph d h = rw (lt-ltb d 10 h)
-
-all_digits : (f k x : ℕ) → k < f → IsDigitCount 10 1 x (suc k) → last_digits 10 (suc k) x ≡ decimal_digits f x
+pub one_digit : (k x : ℕ) → x < 10 → decimal_digits (suc k) x ≡ (48 + x) ∷ []
 unfolding decimal_digits
-all_digits zero k x h e = let z : ⊥ = omega arith in absurd z
-all_digits (suc f) zero x h e =
-    let m : x % 10 ≡ x = omega arith in
-    rw (lt-ltb x 10 (omega arith), m, small_glyph x (omega arith))
-all_digits (suc f) (suc k) x h e =
-    let d : suc (suc k) - 1 ≡ suc k = omega arith in
-    let d' : suc k - 1 ≡ k = omega arith in
-    let top : 10 ^ suc k ≤ x = rw d at (e.2 (omega arith)) in
-    let ten : 10 ≤ 10 ^ suc k = pow-le-pow_right {n = 10} (omega arith) {i = 1} {j = suc k} (omega arith) in
-    let below : x / 10 < 10 ^ suc k = (div-lt_iff_lt-mul {k = 10} (omega arith)).1 (rw (pow-suc 10 (suc k)) at e.1) in
-    let above : 10 ^ k ≤ x / 10 = (le-div_iff_mul-le {k = 10} (omega arith)).1 (rw (pow-suc 10 k) at top) in
-    rw (le-ltb x 10 (omega arith), small_glyph (x % 10) (omega arith), all_digits f k (x / 10) (omega arith) (omega arith, below, λ _. rw d' above))
+one_digit k x h = rw (lt-ltb x 10 h) refl
 
-pub fewest_digits : (k x : ℕ) → x < 18446744073709551616 → IsDigitCount 10 1 x k → last_digits 10 k x ≡ decimal_digits 20 x
-fewest_digits zero x h e = let z : ⊥ = omega arith in absurd z
-fewest_digits (suc k) x h e =
-    ⊎_elim (λ (below : k < 20). all_digits 20 k x below e)
-    (λ over. let above : 20 ≤ k = ⊎_elim (λ e. omega arith) (λ h. omega arith) over in
-    let d : suc k - 1 ≡ k = omega arith in
-    let big : 100000000000000000000 ≤ 10 ^ k = pow-le-pow_right {n = 10} (omega arith) {i = 20} {j = k} above in
-    let z : ⊥ = omega (arith, big, rw d at (e.2 (omega arith))) in absurd z)
-    (tri k 20)
+more_digits : (k x : ℕ) → 10 ≤ x → decimal_digits (suc k) x ≡ decimal_digits k (x / 10) ++ ((48 + x % 10) ∷ [])
+unfolding decimal_digits
+more_digits k x h = rw (le-ltb x 10 h) refl
+
+either_way : (x : ℕ) → (x < 10) ⊎ (10 ≤ x)
+either_way x = ⊎_elim (λ h. inl h) (λ over. inr (⊎_elim (λ e. omega arith) (λ h. omega arith) over)) (tri x 10)
+
+-- with room for so many, one place more changes nothing
+enough : (k x : ℕ) → x < 10 ^ suc k → decimal_digits (suc (suc k)) x ≡ decimal_digits (suc k) x
+enough zero x h = one_digit 1 x (omega (arith, h)) ∙ sym (one_digit 0 x (omega (arith, h)))
+enough (suc k) x h =
+    let less : x / 10 < 10 ^ suc k = (div-lt_iff_lt-mul {k = 10} (omega arith)).1 (rw (pow-suc 10 (suc k)) at h) in
+    ⊎_elim (λ (below : x < 10). one_digit (suc (suc k)) x below ∙ sym (one_digit (suc k) x below))
+    (λ (above : 10 ≤ x). rw (more_digits (suc (suc k)) x above, more_digits (suc k) x above) (ap (λ (s : List ℕ). s ++ ((48 + x % 10) ∷ [])) (enough k (x / 10) less)))
+    (either_way x)
+
+pub one_more_digit : (x : ℕ) → x < 18446744073709551616 → 10 ≤ x → decimal_digits 20 x ≡ decimal_digits 20 (x / 10) ++ ((48 + x % 10) ∷ [])
+one_more_digit x h above =
+    let few : x / 10 < 10 ^ 19 = omega arith in
+    more_digits 19 x above ∙ ap (λ (s : List ℕ). s ++ ((48 + x % 10) ∷ [])) (sym (enough 18 (x / 10) few))

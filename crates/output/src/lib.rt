@@ -1,11 +1,15 @@
 // The bytes of an answer of the board's console, put one after the other into a lent buffer and written at once. Each call takes how many bytes are used and
 // answers how many are used then; what no longer fits is left out, and the caller lends enough for its longest answer.
-ghost use Rattle.std.specs.Prelude.{◌≡◌, ◌++◌, ◌+◌, ◌<◌, ◌≤◌, length, set};
+#![tactic(auto)]
+
+ghost use Rattle.std.specs.Prelude.{◌≡◌, ◌++◌, ◌+◌, ◌<◌, ◌≤◌, length, set, take, OnOk};
 ghost use Rattle.std.proofs.lemmas.List.Edits.{sets};
 ghost use Rattle.output.specs.Digits.{capital, pair, hex_digits, decimal_digits};
 ghost use Rattle.output.specs.Puts.{Puts};
+ghost use Rattle.std.specs.Io.KnownBytes.{Appends};
 
-use libc::STDOUT_FILENO;
+use std::io;
+use std::io::Write;
 
 pub fn put_byte(out: &mut [u8], at: usize, byte: u8) -> usize
     ensures { at < length out.old → (result ≡ at + 1) × (out.new ≡ set out.old at byte) }
@@ -33,9 +37,12 @@ pub fn put(out: &mut [u8], at: usize, s: &[u8]) -> usize
 fn put_decimal(out: &mut [u8], at: usize, x: u64) -> usize
     ensures { Puts (decimal_digits 20 x) at out.old out.new result }
 {
-    let mut digits = [0u8; 20];
-    let k = io::decimal(x, &mut digits);
-    put(out, at, &digits[..k])
+    let last = (x % 10) as u8;
+    if x < 10 {
+        return put_byte(out, at, 48 + last);
+    }
+    let n = put_decimal(out, at, x / 10);
+    put_byte(out, n, 48 + last)
 }
 
 // "Contents are printed in hex with capital digits."
@@ -103,8 +110,11 @@ pub fn put_named2(out: &mut [u8], at: usize, name: &[u8], x: u8) -> usize
 // ---- the whole answer
 
 // Writes the first `n` bytes.
-pub fn write(out: &[u8], n: usize) {
+pub fn write<W: Write>(to: &mut W, out: &[u8], n: usize) -> io::Result<()>
+    ensures { OnOk result (n ≤ length out.now → Appends (W.contents to.old) (W.contents to.new) (take n out.now)) }
+{
     if n <= out.len() {
-        io::write_all(STDOUT_FILENO, &out[0..n]);
+        to.write_all(&out[0..n])?;
     }
+    Ok(())
 }
