@@ -1,6 +1,8 @@
 // The associative processing array of source document 001, as document 02, request a, asks for it: words of three-state cells, two
 // data registers and a mask register, two sets of selectors. Its types, what the word control unit and the bit control unit do for
 // every operation, and the checks of a call. The operations stand in `array_cells` and `array_wide`.
+#![tactic(auto)]
+
 ghost use Rattle.std.specs.Prelude.{◌≡◌, false, ◌≤◌, length};
 ghost use Rattle.machine.specs.Refusals.{bad_width};
 ghost use Rattle.array.specs.Selectors as selectors;
@@ -12,7 +14,7 @@ ghost use Rattle.array.specs.Refusals as refusals;
 use machine::{Found, WordSlice, bad_width, too_wide};
 
 // "three state (0, 1, X="don't care") associative storage cells"
-#[derive(Drop)]
+#[derive(Clone, Copy)]
 pub enum Cell {
     Zero,
     One,
@@ -20,7 +22,7 @@ pub enum Cell {
 }
 
 // "two data registers (R1, R2) .. and one mask register (M)"
-#[derive(Drop)]
+#[derive(Clone, Copy)]
 pub struct Registers {
     pub r1: u64,
     pub r2: u64,
@@ -30,14 +32,14 @@ pub struct Registers {
 // ---- the choices that an operation makes
 
 // "the specified data register (R1, R2)"
-#[derive(Drop)]
+#[derive(Clone, Copy)]
 pub enum Source {
     R1,
     R2,
 }
 
 // "the specified mask (M, all 1's, all 0's)"
-#[derive(Drop)]
+#[derive(Clone, Copy)]
 pub enum Mask {
     M,
     Ones,
@@ -45,14 +47,14 @@ pub enum Mask {
 }
 
 // "one of two sets of selector latches (P and S)"
-#[derive(Drop)]
+#[derive(Clone, Copy)]
 pub enum Latches {
     P,
     S,
 }
 
 // "a specified set of selector latches (P, S, all 0's) .."
-#[derive(Drop)]
+#[derive(Clone, Copy)]
 pub enum Selector {
     P,
     S,
@@ -60,21 +62,21 @@ pub enum Selector {
 }
 
 // ".. in true or complement form"
-#[derive(Drop)]
+#[derive(Clone, Copy)]
 pub enum Form {
     True,
     Complement,
 }
 
 // "with the words that agree, or with those that don't"
-#[derive(Drop)]
+#[derive(Clone, Copy)]
 pub enum Wanted {
     Agree,
     Disagree,
 }
 
 // "may be ANDed or ORed with, or replace the contents"
-#[derive(Drop)]
+#[derive(Clone, Copy)]
 pub enum Combine {
     Replace,
     And,
@@ -82,7 +84,7 @@ pub enum Combine {
 }
 
 // "a specified register (R1, R2, M)"
-#[derive(Drop)]
+#[derive(Clone, Copy)]
 pub enum Sink {
     R1,
     R2,
@@ -90,14 +92,14 @@ pub enum Sink {
 }
 
 // "Two write commands are provided: Write Normal, and Write Special."
-#[derive(Drop)]
+#[derive(Clone, Copy)]
 pub enum Kind {
     Normal,
     Special,
 }
 
 // "Three basic operations may be performed on the array: search, read, and write."
-#[derive(Drop)]
+#[derive(Clone, Copy)]
 pub enum Operation {
     Search {
         source: Source,
@@ -122,7 +124,7 @@ pub enum Operation {
 }
 
 // Why an operation is turned down: "1 to 4 as before, 12 for a cell coded as neither 0, 1 nor X".
-#[derive(Drop)]
+#[derive(Clone, Copy)]
 pub enum Refusal {
     Size,
     Width,
@@ -132,14 +134,14 @@ pub enum Refusal {
 }
 
 // What checking a call finds.
-#[derive(Drop)]
+#[derive(Clone, Copy)]
 pub enum Check {
     Passed,
     Refused(Refusal),
 }
 
 // What an operation answers: the registers after it and the count, or the refusal.
-#[derive(Drop)]
+#[derive(Clone, Copy)]
 pub enum Answer {
     Done { registers: Registers, count: usize },
     Refused(Refusal),

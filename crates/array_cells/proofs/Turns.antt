@@ -78,8 +78,9 @@ module _ (n : ℕ) (r : Registers) (o : Operation) (ws : List Word) where
       rw h (er ∙ ap (λ (y : ℕ). load sink y r) (ev ∙ ap₂ (λ (y z : ℕ). read_into n y z (selected selector form) ws) em eo))
 
 -- search and write load none
-pub unloaded : (n : ℕ) (r : Registers) (o : Operation) (ws : List Word) → OneOf (0 ∷ (2 ∷ [])) (tag_of operation.the_type o) → r ≡ registers_after n r o ws
+pub unloaded : (n : ℕ) (r : Registers) (o : Operation) (ws : List Word)
+    → ((x : Selector) (y : Form) (z : Sink) (w : Mask) → o ≡ Read x y z w → ⊥) → r ≡ registers_after n r o ws
 unfolding registers_after
 unloaded n r (Search source mask wanted set combine) ws k = refl
-unloaded n r (Read selector form sink mask) ws k = absurd (miss (0 ∷ (2 ∷ [])) 1 tt k)
+unloaded n r (Read selector form sink mask) ws k = absurd (k selector form sink mask refl)
 unloaded n r (Write kind source mask selector form) ws k = refl

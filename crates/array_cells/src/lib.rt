@@ -1,4 +1,6 @@
 // The plain machine of the array: one operation, cell by cell, by the truth tables of source document 001. Document 02, request a.
+#![tactic(auto)]
+
 ghost use Rattle.std.specs.Prelude.{◌≡◌, false, ◌≤◌, ◌<◌, length};
 ghost use Rattle.laws.specs.Bits.{bit};
 ghost use Rattle.machine.specs.Refusals.{bad_width};
@@ -122,7 +124,7 @@ fn is_agreeing(width: u32, datum: u64, mask: u64, ones: u64, xs: u64) -> bool
     agree
 }
 
-#[derive(Drop)]
+#[derive(Clone, Copy)]
 struct Planes {
     ones: u64,
     xs: u64,
@@ -148,7 +150,7 @@ fn write_cells(width: u32, kind: Kind, datum: u64, mask: u64, ones: u64, xs: u64
 }
 
 // What an operation makes of one word, and whether the word counts.
-#[derive(Drop)]
+#[derive(Clone, Copy)]
 struct Turned {
     ones: u64,
     xs: u64,

@@ -1,5 +1,7 @@
 // The console's commands for the array of three-state cells: what the host does to its array, and the three operations. docs/BOARD.md has
 // the language.
+#![tactic(auto)]
+
 ghost use Rattle.std.specs.Prelude.{◌≡◌, length, replicate};
 ghost use Rattle.text.specs.Words.{words_of};
 ghost use Rattle.text.specs.Rows.{fits};
@@ -12,7 +14,7 @@ use array_lines::{Asked, choose};
 use text::{arguments, numbers, words};
 
 // The array but for its three lent buffers, of which it says how many entries are its own.
-#[derive(Drop)]
+#[derive(Clone, Copy)]
 pub struct Rack {
     pub width: u32,
     pub words: usize,
@@ -20,7 +22,7 @@ pub struct Rack {
 }
 
 // What is to be printed of a line.
-#[derive(Drop)]
+#[derive(Clone, Copy)]
 pub enum Outcome {
     BadLine,
     Fine,
@@ -30,7 +32,7 @@ pub enum Outcome {
 }
 
 // The rack after a line, and what is to be printed.
-#[derive(Drop)]
+#[derive(Clone, Copy)]
 pub struct Turn {
     pub rack: Rack,
     pub outcome: Outcome,

@@ -1,5 +1,7 @@
 // Entry points for programs in other languages: both machines' operations on the array of three-state cells, by numbers and lent buffers;
 // include/dushvaneth.h tells callers. Document 02, request a.
+#![tactic(auto)]
+
 ghost use Rattle.std.specs.Prelude.{◌≡◌, [], ◌∷◌, ◌<◌, ltb, eqb, length};
 ghost use Rattle.array.specs.Operations.{array};
 ghost use Rattle.array.specs.declared.Answer.TheVariants as answered;
@@ -125,7 +127,7 @@ fn operation_of(code: u32) -> Asked
 }
 
 // What an entry is asked for by its code and the room for its answer: an operation, or the number that it is turned down with.
-#[derive(Drop)]
+#[derive(Clone, Copy)]
 pub enum Order {
     Does(Operation),
     Turned(u32),

@@ -1,4 +1,6 @@
 // An operation on the array as a line of the console writes it: a word for each choice. docs/BOARD.md has the language.
+#![tactic(auto)]
+
 ghost use Rattle.std.specs.Prelude.{◌≡◌, [], ◌≤◌, ltb, length, get_or, drop};
 ghost use Rattle.text.specs.Words.{words_of, place_of};
 ghost use Rattle.array_lines.specs.Choices as choices;
@@ -7,14 +9,14 @@ use array::{Combine, Form, Kind, Latches, Mask, Operation, Selector, Sink, Sourc
 use text::words;
 
 // What a line asks of the array.
-#[derive(Drop)]
+#[derive(Clone, Copy)]
 pub enum Asked {
     Is(Operation),
     Bad,
 }
 
 // A word of a line as one of the names of a choice: whether it is one of them, which, and where it ends.
-#[derive(Drop)]
+#[derive(Clone, Copy)]
 pub struct Choice {
     pub right: bool,
     pub place: usize,

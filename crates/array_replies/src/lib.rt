@@ -1,4 +1,6 @@
 // What the console prints of each outcome of the array's commands: one line, but for the list. docs/BOARD.md has the language.
+#![tactic(auto)]
+
 ghost use Rattle.std.specs.Prelude.{◌∷◌, [], ◌++◌};
 ghost use Rattle.output.specs.Puts.{Puts};
 ghost use Rattle.array_replies.specs.Texts as texts;

@@ -1,5 +1,7 @@
 // The word-wide machine of the array: one operation with a few operations on whole numbers for each word, however many cells it has.
 // Its contract is the plain machine's. Document 02, request a.
+#![tactic(auto)]
+
 ghost use Rattle.std.specs.Prelude.{◌≡◌, length};
 ghost use Rattle.std.specs.Int.Bits.{bit_and, bit_or};
 ghost use Rattle.laws.specs.Bits.{pick};
@@ -76,7 +78,7 @@ fn search_words(
 }
 
 // The OR of the selected words' ones, in which an X is 0, and how many were selected.
-#[derive(Drop)]
+#[derive(Clone, Copy)]
 struct Bus {
     value: u64,
     count: usize,

@@ -1,5 +1,7 @@
 // The plain machine: one pulse, cell by cell, as document 01's paragraph 'The cells' says. The cells of one word are in
 // `chains`.
+#![tactic(auto)]
+
 ghost use Rattle.std.specs.Prelude.{◌≡◌, false, ◌≤◌, length, get_or};
 ghost use Rattle.laws.specs.Bits.{pick};
 ghost use Rattle.laws.specs.Lists.{zip, count};
@@ -29,7 +31,7 @@ fn flip(target: Response, r: Response) -> Response
 // ---- one word
 
 // What a pulse makes of one word: its contents, its response bits, and whether it counts.
-#[derive(Drop)]
+#[derive(Clone, Copy)]
 struct Turned {
     word: u64,
     response: Response,

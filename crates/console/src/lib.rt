@@ -1,4 +1,6 @@
 // Which command a line is. docs/BOARD.md has the language; `console_setting`, `console_pulsing`, `console_working` and `console_storing` have the commands.
+#![tactic(auto)]
+
 ghost use Rattle.std.specs.Prelude.{◌≡◌};
 ghost use Rattle.text.specs.Words.{words_of};
 ghost use Rattle.console.specs.Obeying as obeying;

@@ -2,6 +2,8 @@
 // The commands stand in `console_setting`, `console_pulsing`, `console_working` and `console_storing`: each takes the rest of its line apart, gives it to the
 // library and hands back the library's answer, to be printed. docs/BOARD.md has the language. "The console checks nothing that
 // document 01 gives a refusal for": what a command turns down itself is a line that is none of its own.
+#![tactic(auto)]
+
 ghost use Rattle.std.specs.Prelude.{◌≡◌, ◌%◌};
 ghost use Rattle.console_commands.specs.Boards.{fresh_board, holding};
 ghost use Rattle.console_commands.specs.Ends as ends;
@@ -13,7 +15,7 @@ use machine::{BitSlice, Panel, Refusal, ResponseBit, WordSlice};
 use text::numbers;
 
 // The machine but for its two lent buffers, of which it says how many entries are its own.
-#[derive(Drop)]
+#[derive(Clone, Copy)]
 pub struct Board {
     pub width: u32,
     pub words: usize,
@@ -23,7 +25,7 @@ pub struct Board {
 }
 
 // What is to be printed of a line.
-#[derive(Drop)]
+#[derive(Clone, Copy)]
 pub enum Outcome {
     BadLine,
     Fine,
@@ -49,7 +51,7 @@ pub enum Outcome {
 }
 
 // The board after a line, and what is to be printed.
-#[derive(Drop)]
+#[derive(Clone, Copy)]
 pub struct Turn {
     pub board: Board,
     pub outcome: Outcome,

@@ -1,6 +1,8 @@
 // The commands that give the machine one pulse, ask it for a word or about one, or answer for one: pulses on both machines, resolution by the
 // scan and by the network, the explainer, and the hand-out round. Document 01: 'One pulse', 'The hand-out round'; document 02, request e;
 // docs/BOARD.md has the language.
+#![tactic(auto)]
+
 ghost use Rattle.std.specs.Prelude.{◌≡◌, ◌%◌};
 ghost use Rattle.machine.specs.Machine.{machine};
 ghost use Rattle.text.specs.Words.{words_of};
@@ -14,7 +16,7 @@ use rounds::{Reply, Verdict};
 use text::{arguments, numbers};
 
 // The lines that a pulse's words name, "each at most once, in any order; none is taken too".
-#[derive(Drop)]
+#[derive(Clone, Copy)]
 pub enum Named {
     Are(Lines),
     Bad,

@@ -1,4 +1,6 @@
 // What the console prints of each outcome: one line, but for the list. docs/BOARD.md has the language.
+#![tactic(auto)]
+
 ghost use Rattle.std.specs.Prelude.{◌∷◌, [], ◌++◌};
 ghost use Rattle.laws.specs.Bits.{pick};
 ghost use Rattle.text.specs.Ascii.{ascii};

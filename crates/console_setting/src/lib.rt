@@ -1,5 +1,7 @@
 // The commands by which the host sets its machine up by itself, with no call of the library but the panel's loads: it makes its
 // buffers and writes them, unchecked, so that every refusal can be seen. docs/BOARD.md has the language.
+#![tactic(auto)]
+
 ghost use Rattle.std.specs.Prelude.{◌≡◌, true, length, replicate};
 ghost use Rattle.text.specs.Words.{words_of};
 ghost use Rattle.text.specs.Rows.{fits, values};

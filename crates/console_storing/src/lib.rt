@@ -1,5 +1,7 @@
 // The commands on images: written for `store`, `list` and `room`, read for `resume` and `fit`. Document 01: 'The image';
 // docs/BOARD.md has the language.
+#![tactic(auto)]
+
 ghost use Rattle.std.specs.Prelude.{◌≡◌, ◌≤◌, length, take, drop};
 ghost use Rattle.jobs.specs.Runs.{state};
 ghost use Rattle.image.specs.Calls.{write_of, written};
@@ -164,9 +166,9 @@ fn read_into(
     bytes: &mut [u8],
 ) -> Turn
     requires { at ≤ length rest.now }
-    ensures value { result ≡ images.reading_turn board (record { words = Number.Is w; responses = Number.Is r; image = words_of (drop at rest.now) }) words.entry.now responses.old (length bytes.old) }
-    ensures words_value { words.exit.now ≡ images.reading_words (record { words = Number.Is w; responses = Number.Is r; image = words_of (drop at rest.now) }) words.entry.now responses.old (length bytes.old) }
-    ensures responses_after { responses.new ≡ images.reading_responses (record { words = Number.Is w; responses = Number.Is r; image = words_of (drop at rest.now) }) words.entry.now responses.old (length bytes.old) }
+    ensures value { result ≡ images.reading_turn board (record { words = Number.Is w; responses = Number.Is r; image = words_of (drop at rest.now) }) words.old responses.old (length bytes.old) }
+    ensures words_after { words.new ≡ images.reading_words (record { words = Number.Is w; responses = Number.Is r; image = words_of (drop at rest.now) }) words.old responses.old (length bytes.old) }
+    ensures responses_after { responses.new ≡ images.reading_responses (record { words = Number.Is w; responses = Number.Is r; image = words_of (drop at rest.now) }) words.old responses.old (length bytes.old) }
     ensures bytes_after { bytes.new ≡ images.kept (words_of (drop at rest.now)) bytes.old }
 {
     let found = read_digits(rest, at, bytes);

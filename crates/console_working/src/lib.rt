@@ -1,5 +1,7 @@
 // The commands that work on the held job: started, stepped, run to the end, and counted beforehand. Document 01: 'Jobs';
 // docs/BOARD.md has the language.
+#![tactic(auto)]
+
 ghost use Rattle.std.specs.Prelude.{◌≡◌, suc, ◌-◌};
 ghost use Rattle.jobs.specs.Calls.{is_held};
 ghost use Rattle.jobs.specs.Runs.{state, steps};
@@ -71,7 +73,7 @@ pub fn step(board: Board, rest: &[u8], words: &mut [u64], responses: &mut [Respo
 }
 
 // A run of steps: the job held after them, and how many were accepted.
-#[derive(Drop)]
+#[derive(Clone, Copy)]
 struct Progress {
     held: Held,
     steps: u64,

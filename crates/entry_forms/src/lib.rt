@@ -1,5 +1,7 @@
 // What a caller in another language hands over, taken apart, and what it is told: numbers and lent buffers only. The entry points
 // stand on this (docs/DECISIONS.md, 'The library for C'; include/dushvaneth.h tells callers).
+#![tactic(auto)]
+
 pub mod records;
 
 ghost use Rattle.std.specs.Prelude.{◌≡◌, ◌*◌, ◌<◌, ◌≤◌, length, get_or};

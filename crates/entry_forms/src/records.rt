@@ -50,7 +50,7 @@ pub fn job_of(job: &[u8]) -> Job
     ensures { result ≡ forms.job_in job.now }
 {
     if job.len() == RECORD_SIZE {
-        image_parts::fields::job_at(job, 0)
+        image_parts::image_fields::job_at(job, 0)
     } else {
         no_job()
     }
@@ -60,7 +60,7 @@ pub fn held_of(job: &[u8]) -> Held
     ensures { result ≡ forms.held_in job.now }
 {
     if job.len() == RECORD_SIZE {
-        Held::Holds(image_parts::fields::job_at(job, 0))
+        Held::Holds(image_parts::image_fields::job_at(job, 0))
     } else {
         Held::Nothing
     }

@@ -1,5 +1,7 @@
 // Entry points for programs in other languages: images. Each takes its arguments apart and calls; include/dushvaneth.h tells callers.
 // Document 01: 'The image'.
+#![tactic(auto)]
+
 ghost use Rattle.std.specs.Prelude.{◌≡◌, length};
 ghost use Rattle.jobs.specs.Runs.{state};
 ghost use Rattle.image.specs.Calls.{told_wrote, told_read};

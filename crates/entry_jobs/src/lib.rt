@@ -1,5 +1,7 @@
 // Entry points for programs in other languages: jobs. Each takes its arguments apart and calls; include/dushvaneth.h tells callers.
 // Document 01: 'Jobs'.
+#![tactic(auto)]
+
 ghost use Rattle.std.specs.Prelude.{◌≡◌, length};
 ghost use Rattle.machine.specs.Machine.{machine};
 ghost use Rattle.jobs.specs.Calls.{told_started, told_stepped};

@@ -1,6 +1,8 @@
 // Entry points for programs in other languages: the panel's load, both machines' pulses, the explainer, and resolution. Each takes its arguments
 // apart and calls; include/dushvaneth.h tells callers.
 // Document 01: 'The machine', 'One pulse', Resolution; document 02, request e.
+#![tactic(auto)]
+
 ghost use Rattle.std.specs.Prelude.{◌≡◌, List, length};
 ghost use Rattle.machine.specs.Machine.{machine};
 ghost use Rattle.machine.specs.Panel.{registers};

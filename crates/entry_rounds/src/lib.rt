@@ -1,6 +1,8 @@
 // Entry points for programs in other languages: the hand-out round. Each takes its arguments apart and calls; include/dushvaneth.h tells
 // callers.
 // Document 01: 'The hand-out round'.
+#![tactic(auto)]
+
 ghost use Rattle.std.specs.Prelude.{◌≡◌, eqb, length};
 ghost use Rattle.machine.specs.Machine.{machine};
 ghost use Rattle.rounds.specs.Round as rounding;

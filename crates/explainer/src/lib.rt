@@ -1,5 +1,7 @@
 // Document 02, request e, "Why was she not picked?": for a machine, a panel and a word number, what a search finds there, or why it does not.
 // The cells of that word are looked at as the plain machine has them, from the top bit down.
+#![tactic(auto)]
+
 ghost use Rattle.std.specs.Prelude.{◌≡◌, true, ◌+◌, ◌≤◌, ◌<◌};
 ghost use Rattle.laws.specs.Lists.{all};
 ghost use Rattle.machine.specs.Machine.{machine, syllables};
@@ -17,7 +19,7 @@ use machine::{
 };
 
 // What is answered of a word. The syllable is told by the number of its top bit.
-#[derive(Drop)]
+#[derive(Clone, Copy)]
 pub enum Explained {
     Matched,
     NotSelected(ResponseBit),

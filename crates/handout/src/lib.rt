@@ -1,5 +1,7 @@
 // A whole hand-out round, worked by the host from a list of verdicts: show and answer in turn, until show gives none.
 // Document 01, 'The hand-out round': "The answer none ends the round."
+#![tactic(auto)]
+
 ghost use Rattle.std.specs.Prelude.{◌≡◌, ◌≤◌};
 ghost use Rattle.laws.specs.Bits.{digit};
 ghost use Rattle.machine.specs.declared.Check.TheVariants.{Passed};
@@ -12,7 +14,7 @@ use resolver::Resolved;
 use rounds::{Reply, Verdict, answer, check_round, show};
 
 // What a whole round comes to: how many words were answered done and how many faulty, or the refusal.
-#[derive(Drop)]
+#[derive(Clone, Copy)]
 pub enum Report {
     Ended { done: usize, faulty: usize },
     Refused(Refusal),

@@ -50,6 +50,7 @@ again_in (events.stopped_more a) = events.before (again_in a)
 -- whatever stands in it is a responder, shown after as many stored answers as it has lower ones
 in_turn : (x : ResponseBit) (m : Machine) {book : List Entry} {many : ℕ} → Orderly x m book many → (k n : ℕ) → Shown k n book
     → Responder x m k × (lower x m k ≡ n)
+in_turn x m events.nothing_yet k n s = elim s [ ]
 in_turn x m (events.next o r e) k n events.last = (r, e)
 in_turn x m (events.next o r e) k n (events.before s) = in_turn x m o k n s
 in_turn x m (events.again o a) k n events.last = in_turn x m o k n (again_in a)

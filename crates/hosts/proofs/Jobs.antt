@@ -40,6 +40,7 @@ steps_typed zero s t = t
 steps_typed (suc k) s t = steps_typed k (stepped s) (stepped_typed s t)
 
 none_in : (i : Kept) (is : List Kept) → In i is → is ≡ [] → ⊥
+none_in i [] p e = elim p [ ]
 none_in i (j ∷ is) p e = let z : ◌≡◌ {A = ℕ} 0 1 = cc in absurd (omega arith)
 
 -- ---- the steps that were given

@@ -8,17 +8,17 @@ ghost use Rattle.image.specs.Calls.{read_check, read_of, words_read, responses_r
 
 use crate::Read;
 use image_layout::{COUNT_SIZE, RESPONSE_SIZE, Scanned, WORD_SIZE, WORDS_AT};
-use image_parts::fields;
+use image_parts::image_fields;
 use machine::{Check, Refusal, Response};
 
 pub fn check_read(image: &[u8], words: usize, responses: usize) -> Check
     ensures { result ≡ read_check image.now words responses }
 {
-    let found = fields::scan_image(image);
+    let found = image_fields::scan_image(image);
     match found {
         Scanned::Broken(at) => Check::Refused(Refusal::Malformed(at)),
         Scanned::Sound => {
-            let n = fields::words_in(image);
+            let n = image_fields::words_in(image);
             machine::refuse(Refusal::NoRoom, (words < n) | (responses < n))
         }
     }
@@ -30,7 +30,7 @@ fn fill_words(image: &[u8], at: usize, words: &mut [u64], n: usize)
 {
     let mut i = 0;
     while i < n {
-        words[i] = fields::number_at(image, at + WORD_SIZE * i, WORD_SIZE);
+        words[i] = image_fields::number_at(image, at + WORD_SIZE * i, WORD_SIZE);
         i += 1;
     }
 }
@@ -41,7 +41,7 @@ fn fill_responses(image: &[u8], at: usize, responses: &mut [Response], n: usize)
 {
     let mut i = 0;
     while i < n {
-        responses[i] = fields::response_at(image, at + RESPONSE_SIZE * i);
+        responses[i] = image_fields::response_at(image, at + RESPONSE_SIZE * i);
         i += 1;
     }
 }
@@ -55,14 +55,14 @@ pub fn read(image: &[u8], words: &mut [u64], responses: &mut [Response]) -> Read
     match check {
         Check::Refused(why) => Read::Refused(why),
         Check::Passed => {
-            let n = fields::words_in(image);
+            let n = image_fields::words_in(image);
             let responses_at = image_layout::responses_at(n);
             fill_words(image, WORDS_AT + COUNT_SIZE, words, n);
             fill_responses(image, responses_at + COUNT_SIZE, responses, n);
             Read::Machine {
-                width: fields::width_in(image),
+                width: image_fields::width_in(image),
                 words: n,
-                held: fields::held_at(image, image_layout::jobs_at(n)),
+                held: image_fields::held_at(image, image_layout::jobs_at(n)),
             }
         }
     }

@@ -1,11 +1,13 @@
 // The image's layout: how many bytes each part has and where it stands, the bytes of a machine and its held job, and which
 // bytes are an image. Sizes and definitions; the code is in `image_stores`, `image_parts` and `image`.
 // Document 01: 'The image' and number 9.
+#![tactic(auto)]
+
 ghost use Rattle.std.specs.Prelude.{◌≡◌, ◌≤◌};
 ghost use Rattle.image_layout.specs.Sizes.{responses_at, jobs_at, image_size, most_jobs};
 
 // What a look through the bytes, field by field, finds: nothing wrong, or the place of the first field that is.
-#[derive(Drop)]
+#[derive(Clone, Copy)]
 pub enum Scanned {
     Sound,
     Broken(usize),

@@ -1,3 +1,5 @@
 // The image's parts, looked at one after the other.
 // Document 01: 'The image' and number 9.
-pub mod fields;
+#![tactic(auto)]
+
+pub mod image_fields;

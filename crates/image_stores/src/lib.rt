@@ -1,5 +1,7 @@
 // The image's bytes, stored part after part: each function stores its own bytes and no other, and answers the next place.
 // Document 01, 'The image'.
+#![tactic(auto)]
+
 ghost use Rattle.std.specs.Prelude.{◌≡◌, ◌+◌, ◌*◌, ◌≤◌, length};
 ghost use Rattle.std.proofs.lemmas.List.Edits.{sets};
 ghost use Rattle.machine.specs.Machine.{machine};

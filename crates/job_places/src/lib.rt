@@ -1,5 +1,7 @@
 // The places of a job: which are in the table, the first, and the one after a pulse; and 20 to 25 of a held job.
 // Document 01: 'Jobs', 'The image' (phase, i and j); document 02, request d. The definitions are in `job_plans`.
+#![tactic(auto)]
+
 ghost use Rattle.std.specs.Prelude.{◌≡◌, ◌+◌, ◌-◌, ◌<◌, eqb};
 ghost use Rattle.laws.specs.Bits.{pick};
 ghost use Rattle.job_plans.specs.declared.Held.TheVariants as held;

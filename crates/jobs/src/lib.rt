@@ -1,6 +1,8 @@
 // Jobs: the calls start and step, and the command that a step gives. What a job is stands in `job_plans`, its places in
 // `job_places` and its number of pulses in `job_tally`, whose call is passed on here.
 // Document 01: 'Jobs'; document 02, request d: 20 to 25.
+#![tactic(auto)]
+
 mod commands;
 pub mod totals;
 
@@ -17,14 +19,14 @@ use job_plans::{Command, Held, Job};
 use machine::{Check, Refusal, Response, in_order, refuse};
 
 // What a start answers.
-#[derive(Drop)]
+#[derive(Clone, Copy)]
 pub enum Started {
     Holds(Job),
     Refused(Refusal),
 }
 
 // What a step answers: "the command it gave", the count, and the job held afterwards.
-#[derive(Drop)]
+#[derive(Clone, Copy)]
 pub enum Stepped {
     Gave {
         command: Command,

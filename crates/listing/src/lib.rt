@@ -1,4 +1,6 @@
 // What the program `list` prints of an image: the head and a line for each word, without the last newline. Document 01, figure 13.
+#![tactic(auto)]
+
 ghost use Rattle.std.specs.Prelude.{◌++◌};
 ghost use Rattle.output.specs.Puts.{Puts};
 ghost use Rattle.listing.specs.Lists as lists;

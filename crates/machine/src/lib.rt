@@ -1,5 +1,7 @@
 // The machine's types, its panel's loads, and the checks that calls share.
 // Document 01: 'The machine', 'One pulse', 'Numbers given when a call is turned down'.
+#![tactic(auto)]
+
 ghost use Rattle.std.specs.Prelude.{◌≡◌, [], ◌-◌, ◌%◌, ◌^◌, ◌≤◌, ◌<◌};
 ghost use Rattle.laws.specs.Bits.{digit};
 ghost use Rattle.machine.specs.Panel.{registers, panel_of, load};
@@ -14,18 +16,18 @@ pub type Response = u8;
 pub const RESPONSE_BITS: u32 = 8;
 
 // "Bit-slices and word-slices are numbered apart, and neither number stands for the other."
-#[derive(Drop)]
+#[derive(Clone, Copy)]
 pub struct WordSlice(pub usize);
 
-#[derive(Drop)]
+#[derive(Clone, Copy)]
 pub struct BitSlice(pub u8);
 
 // The number of a response bit; it is no bit-slice's and no word-slice's.
-#[derive(Drop)]
+#[derive(Clone, Copy)]
 pub struct ResponseBit(pub u8);
 
 // "The panel holds five N-bit registers .., three 8-bit ones .. and an address."
-#[derive(Drop)]
+#[derive(Clone, Copy)]
 pub struct Panel {
     pub comp: u64,
     pub sdr: u64,
@@ -132,7 +134,7 @@ impl Panel {
 }
 
 // "Seven lines: search, read, write, add (the last three at the address), multiwrite, multiadd, complement."
-#[derive(Drop)]
+#[derive(Clone, Copy)]
 pub struct Lines {
     pub search: bool,
     pub read: bool,
@@ -144,7 +146,7 @@ pub struct Lines {
 }
 
 // The code of a bit in a search.
-#[derive(Drop)]
+#[derive(Clone, Copy)]
 pub enum Code {
     DontCare,
     Exact,
@@ -153,7 +155,7 @@ pub enum Code {
 }
 
 // What a syllable's cells pass on from top bit to bottom.
-#[derive(Drop)]
+#[derive(Clone, Copy)]
 pub enum Status {
     Equal,
     For,
@@ -161,14 +163,14 @@ pub enum Status {
 }
 
 // A word, or none.
-#[derive(Drop)]
+#[derive(Clone, Copy)]
 pub enum Found {
     At(WordSlice),
     Nothing,
 }
 
 // The syllable of a job that a refusal names. 02 d: "A before B before P".
-#[derive(Drop)]
+#[derive(Clone, Copy)]
 pub enum Syllable {
     A,
     B,
@@ -176,7 +178,7 @@ pub enum Syllable {
 }
 
 // Why a call is turned down, in the order in which it is checked.
-#[derive(Drop)]
+#[derive(Clone, Copy)]
 pub enum Refusal {
     Size,
     Width,
@@ -279,14 +281,14 @@ pub fn turn_of(why: Refusal) -> u64
 }
 
 // What checking a call finds.
-#[derive(Drop)]
+#[derive(Clone, Copy)]
 pub enum Check {
     Passed,
     Refused(Refusal),
 }
 
 // What a pulse answers: the count and the word read, or the refusal.
-#[derive(Drop)]
+#[derive(Clone, Copy)]
 pub enum Answer {
     Done { count: usize, read: u64 },
     Refused(Refusal),

@@ -1,5 +1,7 @@
 // What a pulse works out of the panel once, by whole words: masks, tags and changes for the sweeps.
 // Document 01, 'One pulse', and document 02, request c; that they do what these say is the law proofs/Plan.
+#![tactic(auto)]
+
 ghost use Rattle.std.specs.Prelude.{◌≡◌, ◌^◌, ◌<◌, ◌≤◌};
 ghost use Rattle.fields.specs.Fields.{fields, add_in, above_in};
 ghost use Rattle.fields.specs.Tops.{tops_of, Topped};

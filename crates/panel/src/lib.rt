@@ -1,5 +1,7 @@
 // The panel lent: ten thin loads through `&mut`, one for each register, over the loads by value, and a load by number above them.
 // Document 01, 'The machine': "Loading one register of the panel changes that register and no other." The tenth is SC3 of document 02, request c.
+#![tactic(auto)]
+
 ghost use Rattle.std.specs.Prelude.{◌≡◌};
 ghost use Rattle.laws.specs.Bits.{pick};
 ghost use Rattle.machine.specs.Panel.{registers, load};

@@ -38,7 +38,6 @@ use Rattle.machine.specs.Refusals.{too_wide, machine_check, pulse_check, answer_
 use Rattle.machine.specs.Resolution.{resolved}
 use Rattle.machine.proofs.Loads.{held, load_that, load_no_other, same_panel}
 use Rattle.panel.specs.Numbered.{takes}
-use Rattle.panel.proofs.Thin.{Value, number, word, signature, ended, clauses}
 use Rattle.explainer.specs.declared.Explained.TheVariants as explains
 use Rattle.explainer.specs.Reasons.{explain_check, reason_at, explained}
 use Rattle.resolver.specs.declared.Resolved.TheVariants as found
@@ -137,15 +136,35 @@ use Rattle.machine.specs.contracts.Panel.load_sc3 as own-sc3
 use Rattle.machine.proofs.Panel.load_sc3.Kinds as own-sc3-kinds
 use Rattle.machine.proofs.Panel.load_sc3.Reads as own-sc3-reads
 use Rattle.panel.specs.contracts.load_comp as load-comp
+use Rattle.panel.proofs.load_comp.Kinds as load-comp-kinds
+use Rattle.panel.proofs.load_comp.Reads as load-comp-reads
 use Rattle.panel.specs.contracts.load_sdr as load-sdr
+use Rattle.panel.proofs.load_sdr.Kinds as load-sdr-kinds
+use Rattle.panel.proofs.load_sdr.Reads as load-sdr-reads
 use Rattle.panel.specs.contracts.load_sc1 as load-sc1
+use Rattle.panel.proofs.load_sc1.Kinds as load-sc1-kinds
+use Rattle.panel.proofs.load_sc1.Reads as load-sc1-reads
 use Rattle.panel.specs.contracts.load_sc2 as load-sc2
+use Rattle.panel.proofs.load_sc2.Kinds as load-sc2-kinds
+use Rattle.panel.proofs.load_sc2.Reads as load-sc2-reads
 use Rattle.panel.specs.contracts.load_mor as load-mor
+use Rattle.panel.proofs.load_mor.Kinds as load-mor-kinds
+use Rattle.panel.proofs.load_mor.Reads as load-mor-reads
 use Rattle.panel.specs.contracts.load_key as load-key
+use Rattle.panel.proofs.load_key.Kinds as load-key-kinds
+use Rattle.panel.proofs.load_key.Reads as load-key-reads
 use Rattle.panel.specs.contracts.load_care as load-care
+use Rattle.panel.proofs.load_care.Kinds as load-care-kinds
+use Rattle.panel.proofs.load_care.Reads as load-care-reads
 use Rattle.panel.specs.contracts.load_target as load-target
+use Rattle.panel.proofs.load_target.Kinds as load-target-kinds
+use Rattle.panel.proofs.load_target.Reads as load-target-reads
 use Rattle.panel.specs.contracts.load_address as load-address
+use Rattle.panel.proofs.load_address.Kinds as load-address-kinds
+use Rattle.panel.proofs.load_address.Reads as load-address-reads
 use Rattle.panel.specs.contracts.load_sc3 as load-sc3
+use Rattle.panel.proofs.load_sc3.Kinds as load-sc3-kinds
+use Rattle.panel.proofs.load_sc3.Reads as load-sc3-reads
 use Rattle.panel.specs.contracts.load as numbered
 use Rattle.panel.proofs.load.Kinds as numbered-kinds
 use Rattle.panel.proofs.load.Reads as numbered-reads
@@ -499,48 +518,46 @@ pub own_sc3_meets : (κs : Lfts 0) (a : ArgsD own-sc3.signature κs) (r : ResD o
     → own-sc3-reads.Post κs a r s → Loads 9 a.1.0 a.0 r
 own_sc3_meets κs a r s h = a_load 9 a.1.0 a.0 r (omega arith) h
 
--- of a panel lent, as a formula (see `Settled`)
-module _ {M : Type 1} (𝓤 : Ura M) where
-  abbrev pub LoadsLent : (v : Value) → ℕ → (v.row.Denot → ℕ) → Clauses 𝓤 (ended v) → Type 1
-  LoadsLent v k value c =
-      (κs : Lfts 1) (a : Args (signature v) κs) (g : (c κs a).ghost) (r : Res (signature v) κs) (s : AtExit (ended v) κs)
-      → ent 𝓤 ((c κs a).ensures g r s) (fact 𝓤 (Loads k (value a.1.0) a.0.now s.0.now))
+-- of a panel lent
+pub load_comp_meets : (κs : Lfts 1) (a : ArgsD load-comp.signature κs) (r : ResD load-comp.signature κs) (s : AtExit (ended_of 1 load-comp-kinds.ps load-comp-kinds.r) κs)
+    → load-comp-reads.Post κs a r s → Loads 0 a.1.0 a.0.now s.0.now
+load_comp_meets κs a r s h = a_load 0 a.1.0 a.0.now s.0.now (omega arith) h
 
-  lent : (v : Value) (k : ℕ) (value : v.row.Denot → ℕ) → k < 10 → LoadsLent v k value (clauses 𝓤 v (λ p x q. registers q ≡ load k (value x) p))
-  lent v k value few κs a g r s =
-      fact_mono 𝓤 (registers s.0.now ≡ load k (value a.1.0) a.0.now) (Loads k (value a.1.0) a.0.now s.0.now)
-      (a_load k (value a.1.0) a.0.now s.0.now few)
+pub load_sdr_meets : (κs : Lfts 1) (a : ArgsD load-sdr.signature κs) (r : ResD load-sdr.signature κs) (s : AtExit (ended_of 1 load-sdr-kinds.ps load-sdr-kinds.r) κs)
+    → load-sdr-reads.Post κs a r s → Loads 1 a.1.0 a.0.now s.0.now
+load_sdr_meets κs a r s h = a_load 1 a.1.0 a.0.now s.0.now (omega arith) h
 
-module _ {M : Type 1} {𝓤 : Ura M} (𝓛 : Logic 𝓤) (mem : Memory → SProp 𝓤) (run : Routine → Fun 𝓤) where
-  pub load_comp_meets : LoadsLent 𝓤 (number w64) 0 (λ v. v) (load-comp.clauses 𝓛 mem run)
-  load_comp_meets = lent 𝓤 (number w64) 0 (λ v. v) (omega arith)
+pub load_sc1_meets : (κs : Lfts 1) (a : ArgsD load-sc1.signature κs) (r : ResD load-sc1.signature κs) (s : AtExit (ended_of 1 load-sc1-kinds.ps load-sc1-kinds.r) κs)
+    → load-sc1-reads.Post κs a r s → Loads 2 a.1.0 a.0.now s.0.now
+load_sc1_meets κs a r s h = a_load 2 a.1.0 a.0.now s.0.now (omega arith) h
 
-  pub load_sdr_meets : LoadsLent 𝓤 (number w64) 1 (λ v. v) (load-sdr.clauses 𝓛 mem run)
-  load_sdr_meets = lent 𝓤 (number w64) 1 (λ v. v) (omega arith)
+pub load_sc2_meets : (κs : Lfts 1) (a : ArgsD load-sc2.signature κs) (r : ResD load-sc2.signature κs) (s : AtExit (ended_of 1 load-sc2-kinds.ps load-sc2-kinds.r) κs)
+    → load-sc2-reads.Post κs a r s → Loads 3 a.1.0 a.0.now s.0.now
+load_sc2_meets κs a r s h = a_load 3 a.1.0 a.0.now s.0.now (omega arith) h
 
-  pub load_sc1_meets : LoadsLent 𝓤 (number w64) 2 (λ v. v) (load-sc1.clauses 𝓛 mem run)
-  load_sc1_meets = lent 𝓤 (number w64) 2 (λ v. v) (omega arith)
+pub load_mor_meets : (κs : Lfts 1) (a : ArgsD load-mor.signature κs) (r : ResD load-mor.signature κs) (s : AtExit (ended_of 1 load-mor-kinds.ps load-mor-kinds.r) κs)
+    → load-mor-reads.Post κs a r s → Loads 4 a.1.0 a.0.now s.0.now
+load_mor_meets κs a r s h = a_load 4 a.1.0 a.0.now s.0.now (omega arith) h
 
-  pub load_sc2_meets : LoadsLent 𝓤 (number w64) 3 (λ v. v) (load-sc2.clauses 𝓛 mem run)
-  load_sc2_meets = lent 𝓤 (number w64) 3 (λ v. v) (omega arith)
+pub load_key_meets : (κs : Lfts 1) (a : ArgsD load-key.signature κs) (r : ResD load-key.signature κs) (s : AtExit (ended_of 1 load-key-kinds.ps load-key-kinds.r) κs)
+    → load-key-reads.Post κs a r s → Loads 5 a.1.0 a.0.now s.0.now
+load_key_meets κs a r s h = a_load 5 a.1.0 a.0.now s.0.now (omega arith) h
 
-  pub load_mor_meets : LoadsLent 𝓤 (number w64) 4 (λ v. v) (load-mor.clauses 𝓛 mem run)
-  load_mor_meets = lent 𝓤 (number w64) 4 (λ v. v) (omega arith)
+pub load_care_meets : (κs : Lfts 1) (a : ArgsD load-care.signature κs) (r : ResD load-care.signature κs) (s : AtExit (ended_of 1 load-care-kinds.ps load-care-kinds.r) κs)
+    → load-care-reads.Post κs a r s → Loads 6 a.1.0 a.0.now s.0.now
+load_care_meets κs a r s h = a_load 6 a.1.0 a.0.now s.0.now (omega arith) h
 
-  pub load_key_meets : LoadsLent 𝓤 (number w8) 5 (λ v. v) (load-key.clauses 𝓛 mem run)
-  load_key_meets = lent 𝓤 (number w8) 5 (λ v. v) (omega arith)
+pub load_target_meets : (κs : Lfts 1) (a : ArgsD load-target.signature κs) (r : ResD load-target.signature κs) (s : AtExit (ended_of 1 load-target-kinds.ps load-target-kinds.r) κs)
+    → load-target-reads.Post κs a r s → Loads 7 a.1.0 a.0.now s.0.now
+load_target_meets κs a r s h = a_load 7 a.1.0 a.0.now s.0.now (omega arith) h
 
-  pub load_care_meets : LoadsLent 𝓤 (number w8) 6 (λ v. v) (load-care.clauses 𝓛 mem run)
-  load_care_meets = lent 𝓤 (number w8) 6 (λ v. v) (omega arith)
+pub load_address_meets : (κs : Lfts 1) (a : ArgsD load-address.signature κs) (r : ResD load-address.signature κs) (s : AtExit (ended_of 1 load-address-kinds.ps load-address-kinds.r) κs)
+    → load-address-reads.Post κs a r s → Loads 8 a.1.0.0 a.0.now s.0.now
+load_address_meets κs a r s h = a_load 8 a.1.0.0 a.0.now s.0.now (omega arith) h
 
-  pub load_target_meets : LoadsLent 𝓤 (number w8) 7 (λ v. v) (load-target.clauses 𝓛 mem run)
-  load_target_meets = lent 𝓤 (number w8) 7 (λ v. v) (omega arith)
-
-  pub load_address_meets : LoadsLent 𝓤 word 8 (λ v. v.0) (load-address.clauses 𝓛 mem run)
-  load_address_meets = lent 𝓤 word 8 (λ v. v.0) (omega arith)
-
-  pub load_sc3_meets : LoadsLent 𝓤 (number w64) 9 (λ v. v) (load-sc3.clauses 𝓛 mem run)
-  load_sc3_meets = lent 𝓤 (number w64) 9 (λ v. v) (omega arith)
+pub load_sc3_meets : (κs : Lfts 1) (a : ArgsD load-sc3.signature κs) (r : ResD load-sc3.signature κs) (s : AtExit (ended_of 1 load-sc3-kinds.ps load-sc3-kinds.r) κs)
+    → load-sc3-reads.Post κs a r s → Loads 9 a.1.0 a.0.now s.0.now
+load_sc3_meets κs a r s h = a_load 9 a.1.0 a.0.now s.0.now (omega arith) h
 
 -- by number: what `takes` answers beforehand, and nothing changes where it is false
 pub takes_meets : (κs : Lfts 0) (a : ArgsD taking.signature κs) (r : ResD taking.signature κs) (s : AtExit (ended_of 0 taking-kinds.ps taking-kinds.r) κs)

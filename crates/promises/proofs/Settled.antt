@@ -83,18 +83,36 @@ use Rattle.machine.specs.contracts.Panel.load_sc3 as own-sc3
 use Rattle.machine.proofs.Panel.load_sc3.Kinds as own-sc3-kinds
 use Rattle.machine.proofs.Panel.load_sc3.Reads as own-sc3-reads
 use Rattle.machine.proofs.Loads.{same_panel}
-use Rattle.panel.proofs.Thin.{number, word}
-use Rattle.panel.proofs.Settles.{Settles, settles}
 use Rattle.panel.specs.contracts.load_comp as load-comp
+use Rattle.panel.proofs.load_comp.Kinds as load-comp-kinds
+use Rattle.panel.proofs.load_comp.Reads as load-comp-reads
 use Rattle.panel.specs.contracts.load_sdr as load-sdr
+use Rattle.panel.proofs.load_sdr.Kinds as load-sdr-kinds
+use Rattle.panel.proofs.load_sdr.Reads as load-sdr-reads
 use Rattle.panel.specs.contracts.load_sc1 as load-sc1
+use Rattle.panel.proofs.load_sc1.Kinds as load-sc1-kinds
+use Rattle.panel.proofs.load_sc1.Reads as load-sc1-reads
 use Rattle.panel.specs.contracts.load_sc2 as load-sc2
+use Rattle.panel.proofs.load_sc2.Kinds as load-sc2-kinds
+use Rattle.panel.proofs.load_sc2.Reads as load-sc2-reads
 use Rattle.panel.specs.contracts.load_mor as load-mor
+use Rattle.panel.proofs.load_mor.Kinds as load-mor-kinds
+use Rattle.panel.proofs.load_mor.Reads as load-mor-reads
 use Rattle.panel.specs.contracts.load_key as load-key
+use Rattle.panel.proofs.load_key.Kinds as load-key-kinds
+use Rattle.panel.proofs.load_key.Reads as load-key-reads
 use Rattle.panel.specs.contracts.load_care as load-care
+use Rattle.panel.proofs.load_care.Kinds as load-care-kinds
+use Rattle.panel.proofs.load_care.Reads as load-care-reads
 use Rattle.panel.specs.contracts.load_target as load-target
+use Rattle.panel.proofs.load_target.Kinds as load-target-kinds
+use Rattle.panel.proofs.load_target.Reads as load-target-reads
 use Rattle.panel.specs.contracts.load_address as load-address
+use Rattle.panel.proofs.load_address.Kinds as load-address-kinds
+use Rattle.panel.proofs.load_address.Reads as load-address-reads
 use Rattle.panel.specs.contracts.load_sc3 as load-sc3
+use Rattle.panel.proofs.load_sc3.Kinds as load-sc3-kinds
+use Rattle.panel.proofs.load_sc3.Reads as load-sc3-reads
 use Rattle.panel.specs.contracts.load as numbered
 use Rattle.panel.proofs.load.Kinds as numbered-kinds
 use Rattle.panel.proofs.load.Reads as numbered-reads
@@ -195,37 +213,46 @@ pub own_sc3_settled : (κs : Lfts 0) (a : ArgsD own-sc3.signature κs) (r r' : R
     → own-sc3-reads.Post κs a r s → own-sc3-reads.Post κs a r' s' → r ≡ r'
 own_sc3_settled κs a r r' s s' h g = same_panel r r' (h ∙ sym g)
 
--- the nine thin loads: what their contracts say of a panel lent is a formula, and that two panels are equal follows from it as one (`Settles`)
-module _ {M : Type 1} {𝓤 : Ura M} (𝓛 : Logic 𝓤) (mem : Memory → SProp 𝓤) (run : Routine → Fun 𝓤) where
-  pub load_comp_settled : Settles 𝓤 (number w64) (load-comp.clauses 𝓛 mem run)
-  load_comp_settled = settles 𝓤 (number w64) 0 (λ v. v)
+-- the ten loads of a panel lent
+pub load_comp_settled : (κs : Lfts 1) (a : ArgsD load-comp.signature κs) (r r' : ResD load-comp.signature κs) (s s' : AtExit (ended_of 1 load-comp-kinds.ps load-comp-kinds.r) κs)
+    → load-comp-reads.Post κs a r s → load-comp-reads.Post κs a r' s' → s.0.now ≡ s'.0.now
+load_comp_settled κs a r r' s s' h g = same_panel s.0.now s'.0.now (h ∙ sym g)
 
-  pub load_sdr_settled : Settles 𝓤 (number w64) (load-sdr.clauses 𝓛 mem run)
-  load_sdr_settled = settles 𝓤 (number w64) 1 (λ v. v)
+pub load_sdr_settled : (κs : Lfts 1) (a : ArgsD load-sdr.signature κs) (r r' : ResD load-sdr.signature κs) (s s' : AtExit (ended_of 1 load-sdr-kinds.ps load-sdr-kinds.r) κs)
+    → load-sdr-reads.Post κs a r s → load-sdr-reads.Post κs a r' s' → s.0.now ≡ s'.0.now
+load_sdr_settled κs a r r' s s' h g = same_panel s.0.now s'.0.now (h ∙ sym g)
 
-  pub load_sc1_settled : Settles 𝓤 (number w64) (load-sc1.clauses 𝓛 mem run)
-  load_sc1_settled = settles 𝓤 (number w64) 2 (λ v. v)
+pub load_sc1_settled : (κs : Lfts 1) (a : ArgsD load-sc1.signature κs) (r r' : ResD load-sc1.signature κs) (s s' : AtExit (ended_of 1 load-sc1-kinds.ps load-sc1-kinds.r) κs)
+    → load-sc1-reads.Post κs a r s → load-sc1-reads.Post κs a r' s' → s.0.now ≡ s'.0.now
+load_sc1_settled κs a r r' s s' h g = same_panel s.0.now s'.0.now (h ∙ sym g)
 
-  pub load_sc2_settled : Settles 𝓤 (number w64) (load-sc2.clauses 𝓛 mem run)
-  load_sc2_settled = settles 𝓤 (number w64) 3 (λ v. v)
+pub load_sc2_settled : (κs : Lfts 1) (a : ArgsD load-sc2.signature κs) (r r' : ResD load-sc2.signature κs) (s s' : AtExit (ended_of 1 load-sc2-kinds.ps load-sc2-kinds.r) κs)
+    → load-sc2-reads.Post κs a r s → load-sc2-reads.Post κs a r' s' → s.0.now ≡ s'.0.now
+load_sc2_settled κs a r r' s s' h g = same_panel s.0.now s'.0.now (h ∙ sym g)
 
-  pub load_mor_settled : Settles 𝓤 (number w64) (load-mor.clauses 𝓛 mem run)
-  load_mor_settled = settles 𝓤 (number w64) 4 (λ v. v)
+pub load_mor_settled : (κs : Lfts 1) (a : ArgsD load-mor.signature κs) (r r' : ResD load-mor.signature κs) (s s' : AtExit (ended_of 1 load-mor-kinds.ps load-mor-kinds.r) κs)
+    → load-mor-reads.Post κs a r s → load-mor-reads.Post κs a r' s' → s.0.now ≡ s'.0.now
+load_mor_settled κs a r r' s s' h g = same_panel s.0.now s'.0.now (h ∙ sym g)
 
-  pub load_key_settled : Settles 𝓤 (number w8) (load-key.clauses 𝓛 mem run)
-  load_key_settled = settles 𝓤 (number w8) 5 (λ v. v)
+pub load_key_settled : (κs : Lfts 1) (a : ArgsD load-key.signature κs) (r r' : ResD load-key.signature κs) (s s' : AtExit (ended_of 1 load-key-kinds.ps load-key-kinds.r) κs)
+    → load-key-reads.Post κs a r s → load-key-reads.Post κs a r' s' → s.0.now ≡ s'.0.now
+load_key_settled κs a r r' s s' h g = same_panel s.0.now s'.0.now (h ∙ sym g)
 
-  pub load_care_settled : Settles 𝓤 (number w8) (load-care.clauses 𝓛 mem run)
-  load_care_settled = settles 𝓤 (number w8) 6 (λ v. v)
+pub load_care_settled : (κs : Lfts 1) (a : ArgsD load-care.signature κs) (r r' : ResD load-care.signature κs) (s s' : AtExit (ended_of 1 load-care-kinds.ps load-care-kinds.r) κs)
+    → load-care-reads.Post κs a r s → load-care-reads.Post κs a r' s' → s.0.now ≡ s'.0.now
+load_care_settled κs a r r' s s' h g = same_panel s.0.now s'.0.now (h ∙ sym g)
 
-  pub load_target_settled : Settles 𝓤 (number w8) (load-target.clauses 𝓛 mem run)
-  load_target_settled = settles 𝓤 (number w8) 7 (λ v. v)
+pub load_target_settled : (κs : Lfts 1) (a : ArgsD load-target.signature κs) (r r' : ResD load-target.signature κs) (s s' : AtExit (ended_of 1 load-target-kinds.ps load-target-kinds.r) κs)
+    → load-target-reads.Post κs a r s → load-target-reads.Post κs a r' s' → s.0.now ≡ s'.0.now
+load_target_settled κs a r r' s s' h g = same_panel s.0.now s'.0.now (h ∙ sym g)
 
-  pub load_address_settled : Settles 𝓤 word (load-address.clauses 𝓛 mem run)
-  load_address_settled = settles 𝓤 word 8 (λ v. v.0)
+pub load_address_settled : (κs : Lfts 1) (a : ArgsD load-address.signature κs) (r r' : ResD load-address.signature κs) (s s' : AtExit (ended_of 1 load-address-kinds.ps load-address-kinds.r) κs)
+    → load-address-reads.Post κs a r s → load-address-reads.Post κs a r' s' → s.0.now ≡ s'.0.now
+load_address_settled κs a r r' s s' h g = same_panel s.0.now s'.0.now (h ∙ sym g)
 
-  pub load_sc3_settled : Settles 𝓤 (number w64) (load-sc3.clauses 𝓛 mem run)
-  load_sc3_settled = settles 𝓤 (number w64) 9 (λ v. v)
+pub load_sc3_settled : (κs : Lfts 1) (a : ArgsD load-sc3.signature κs) (r r' : ResD load-sc3.signature κs) (s s' : AtExit (ended_of 1 load-sc3-kinds.ps load-sc3-kinds.r) κs)
+    → load-sc3-reads.Post κs a r s → load-sc3-reads.Post κs a r' s' → s.0.now ≡ s'.0.now
+load_sc3_settled κs a r r' s s' h g = same_panel s.0.now s'.0.now (h ∙ sym g)
 
 pub load_settled : (κs : Lfts 0) (a : ArgsD numbered.signature κs) (r r' : ResD numbered.signature κs) (s s' : AtExit (ended_of 0 numbered-kinds.ps numbered-kinds.r) κs)
     → numbered-reads.Post κs a r s → numbered-reads.Post κs a r' s' → r ≡ r'

@@ -61,17 +61,26 @@ use Rattle.machine.specs.contracts.Panel.load_address as own-address
 use Rattle.machine.proofs.Panel.load_address.Reads as own-address-reads
 use Rattle.machine.specs.contracts.Panel.load_sc3 as own-sc3
 use Rattle.machine.proofs.Panel.load_sc3.Reads as own-sc3-reads
-use Rattle.panel.proofs.Thin.{Value, number, word, signature, ended}
 use Rattle.panel.specs.contracts.load_comp as load-comp
+use Rattle.panel.proofs.load_comp.Reads as load-comp-reads
 use Rattle.panel.specs.contracts.load_sdr as load-sdr
+use Rattle.panel.proofs.load_sdr.Reads as load-sdr-reads
 use Rattle.panel.specs.contracts.load_sc1 as load-sc1
+use Rattle.panel.proofs.load_sc1.Reads as load-sc1-reads
 use Rattle.panel.specs.contracts.load_sc2 as load-sc2
+use Rattle.panel.proofs.load_sc2.Reads as load-sc2-reads
 use Rattle.panel.specs.contracts.load_mor as load-mor
+use Rattle.panel.proofs.load_mor.Reads as load-mor-reads
 use Rattle.panel.specs.contracts.load_key as load-key
+use Rattle.panel.proofs.load_key.Reads as load-key-reads
 use Rattle.panel.specs.contracts.load_care as load-care
+use Rattle.panel.proofs.load_care.Reads as load-care-reads
 use Rattle.panel.specs.contracts.load_target as load-target
+use Rattle.panel.proofs.load_target.Reads as load-target-reads
 use Rattle.panel.specs.contracts.load_address as load-address
+use Rattle.panel.proofs.load_address.Reads as load-address-reads
 use Rattle.panel.specs.contracts.load_sc3 as load-sc3
+use Rattle.panel.proofs.load_sc3.Reads as load-sc3-reads
 
 pub plain_pulse_takes_any : (κs : Lfts 2) (a : ArgsD plain-pulse.signature κs) → plain-pulse-reads.Pre κs a
 plain_pulse_takes_any κs a = tt
@@ -148,38 +157,33 @@ own_address_takes_any κs a = tt
 pub own_sc3_takes_any : (κs : Lfts 0) (a : ArgsD own-sc3.signature κs) → own-sc3-reads.Pre κs a
 own_sc3_takes_any κs a = tt
 
--- the nine loads of a panel lent: their preconditions are formulas, which hold of nothing
-module _ {M : Type 1} (𝓤 : Ura M) where
-  abbrev pub TakesAny : (v : Value) → Clauses 𝓤 (ended v) → Type 1
-  TakesAny v c = (κs : Lfts 1) (a : Args (signature v) κs) (g : (c κs a).ghost) → ent 𝓤 (emp 𝓤) ((c κs a).requires g)
+-- the ten loads of a panel lent
+pub load_comp_takes_any : (κs : Lfts 1) (a : ArgsD load-comp.signature κs) → load-comp-reads.Pre κs a
+load_comp_takes_any κs a = tt
 
-module _ {M : Type 1} {𝓤 : Ura M} (𝓛 : Logic 𝓤) (mem : Memory → SProp 𝓤) (run : Routine → Fun 𝓤) where
-  pub load_comp_takes_any : TakesAny 𝓤 (number w64) (load-comp.clauses 𝓛 mem run)
-  load_comp_takes_any κs a g = id⊢ 𝓤 (emp 𝓤)
+pub load_sdr_takes_any : (κs : Lfts 1) (a : ArgsD load-sdr.signature κs) → load-sdr-reads.Pre κs a
+load_sdr_takes_any κs a = tt
 
-  pub load_sdr_takes_any : TakesAny 𝓤 (number w64) (load-sdr.clauses 𝓛 mem run)
-  load_sdr_takes_any κs a g = id⊢ 𝓤 (emp 𝓤)
+pub load_sc1_takes_any : (κs : Lfts 1) (a : ArgsD load-sc1.signature κs) → load-sc1-reads.Pre κs a
+load_sc1_takes_any κs a = tt
 
-  pub load_sc1_takes_any : TakesAny 𝓤 (number w64) (load-sc1.clauses 𝓛 mem run)
-  load_sc1_takes_any κs a g = id⊢ 𝓤 (emp 𝓤)
+pub load_sc2_takes_any : (κs : Lfts 1) (a : ArgsD load-sc2.signature κs) → load-sc2-reads.Pre κs a
+load_sc2_takes_any κs a = tt
 
-  pub load_sc2_takes_any : TakesAny 𝓤 (number w64) (load-sc2.clauses 𝓛 mem run)
-  load_sc2_takes_any κs a g = id⊢ 𝓤 (emp 𝓤)
+pub load_mor_takes_any : (κs : Lfts 1) (a : ArgsD load-mor.signature κs) → load-mor-reads.Pre κs a
+load_mor_takes_any κs a = tt
 
-  pub load_mor_takes_any : TakesAny 𝓤 (number w64) (load-mor.clauses 𝓛 mem run)
-  load_mor_takes_any κs a g = id⊢ 𝓤 (emp 𝓤)
+pub load_key_takes_any : (κs : Lfts 1) (a : ArgsD load-key.signature κs) → load-key-reads.Pre κs a
+load_key_takes_any κs a = tt
 
-  pub load_key_takes_any : TakesAny 𝓤 (number w8) (load-key.clauses 𝓛 mem run)
-  load_key_takes_any κs a g = id⊢ 𝓤 (emp 𝓤)
+pub load_care_takes_any : (κs : Lfts 1) (a : ArgsD load-care.signature κs) → load-care-reads.Pre κs a
+load_care_takes_any κs a = tt
 
-  pub load_care_takes_any : TakesAny 𝓤 (number w8) (load-care.clauses 𝓛 mem run)
-  load_care_takes_any κs a g = id⊢ 𝓤 (emp 𝓤)
+pub load_target_takes_any : (κs : Lfts 1) (a : ArgsD load-target.signature κs) → load-target-reads.Pre κs a
+load_target_takes_any κs a = tt
 
-  pub load_target_takes_any : TakesAny 𝓤 (number w8) (load-target.clauses 𝓛 mem run)
-  load_target_takes_any κs a g = id⊢ 𝓤 (emp 𝓤)
+pub load_address_takes_any : (κs : Lfts 1) (a : ArgsD load-address.signature κs) → load-address-reads.Pre κs a
+load_address_takes_any κs a = tt
 
-  pub load_address_takes_any : TakesAny 𝓤 word (load-address.clauses 𝓛 mem run)
-  load_address_takes_any κs a g = id⊢ 𝓤 (emp 𝓤)
-
-  pub load_sc3_takes_any : TakesAny 𝓤 (number w64) (load-sc3.clauses 𝓛 mem run)
-  load_sc3_takes_any κs a g = id⊢ 𝓤 (emp 𝓤)
+pub load_sc3_takes_any : (κs : Lfts 1) (a : ArgsD load-sc3.signature κs) → load-sc3-reads.Pre κs a
+load_sc3_takes_any κs a = tt

@@ -1,6 +1,8 @@
 // Document 01, 'One pulse', Resolution: "The lowest-numbered selected word, or none exactly if no word is selected."
 // Two calls with one contract: `scan` goes from word 0 up; `network` is a tree that halves the words until one is left.
 // Neither changes anything that is lent to it: "Resolving is no pulse."
+#![tactic(auto)]
+
 ghost use Rattle.std.specs.Prelude.{◌≡◌, ◌+◌, ◌≤◌, length};
 ghost use Rattle.machine.specs.Machine.{machine, selected};
 ghost use Rattle.machine.specs.Resolution.{lowest};
@@ -10,7 +12,7 @@ ghost use Rattle.resolver.specs.Merging.{alone, lower_of};
 use machine::{Check, Found, Refusal, Response, WordSlice, is_selected};
 
 // What resolving answers: the lowest-numbered selected word, none, or why the call is turned down.
-#[derive(Drop)]
+#[derive(Clone, Copy)]
 pub enum Resolved {
     At(WordSlice),
     Nothing,

@@ -1,5 +1,7 @@
 // Document 01, 'The hand-out round': show and answer.
 // None of them looks at a held job. Show changes nothing; an answer changes one word's X and, if faulty, its F.
+#![tactic(auto)]
+
 ghost use Rattle.std.specs.Prelude.{◌≡◌, ◌<◌, length, set};
 ghost use Rattle.machine.specs.Machine.{machine, response_bits};
 ghost use Rattle.machine.specs.Resolution.{lowest};
@@ -9,14 +11,14 @@ use machine::{Check, Found, Refusal, Response, ResponseBit, WordSlice};
 use resolver::Resolved;
 
 // What the host says of a word that it was shown.
-#[derive(Drop)]
+#[derive(Clone, Copy)]
 pub enum Verdict {
     Done,
     Faulty,
 }
 
 // What becomes of an answer.
-#[derive(Drop)]
+#[derive(Clone, Copy)]
 pub enum Reply {
     Taken,
     Refused(Refusal),

@@ -1,6 +1,8 @@
 // The sweeps over all words: loops with a constant number of word operations for each word, however many syllables there are.
 // They know nothing of the machine; their contracts say which rule of specs/Rules each word and response takes, and how many words pass.
 // Document 01, 'One pulse'. Words and response bits are read before they change: "All results are worked out from the machine before the pulse."
+#![tactic(auto)]
+
 mod word;
 
 ghost use Rattle.std.specs.Prelude.{◌≡◌, ℕ, ◌+◌, ◌-◌, ◌<◌, ◌≤◌, min, true, false, length, slice_index};
@@ -15,7 +17,7 @@ pub use word::{chosen_of, new_word};
 // What a search works out of the panel once. In each syllable the word's cared bits, turned by a flip, are held against a limit; the carry out of
 // the bits below a syllable's top decides with the top itself. `topcare` and `topflip` are care and flip at the tops of the syllables that ask
 // for anything, `lowcare` and `lowflip` at the bits that are no top, `rest` is the limit at those, and `want` what all satisfied gives.
-#[derive(Drop)]
+#[derive(Clone, Copy)]
 pub struct Masks {
     pub topcare: u64,
     pub topflip: u64,
@@ -27,7 +29,7 @@ pub struct Masks {
 }
 
 // What selects, and what is marked.
-#[derive(Drop)]
+#[derive(Clone, Copy)]
 pub struct Tags {
     pub key: Response,
     pub care: Response,
@@ -35,7 +37,7 @@ pub struct Tags {
 }
 
 // What a write and an add work out of the panel once; `low` are the bits that are no syllable's top.
-#[derive(Drop)]
+#[derive(Clone, Copy)]
 pub struct Changes {
     pub comp: u64,
     pub mor: u64,

@@ -1,5 +1,7 @@
 // The word-wide machine: one pulse with a constant number of word operations for each word, however many syllables there are.
 // Document 01, 'One pulse'. Its contract is the plain machine's. Masks are worked out once per pulse, in constant time.
+#![tactic(auto)]
+
 ghost use Rattle.std.specs.Prelude.{◌≡◌, true, false, ◌-◌, ◌^◌, ◌≤◌, ◌<◌, length, get_or};
 ghost use Rattle.laws.specs.Bits.{pick};
 ghost use Rattle.laws.specs.Lists.{zip, count};

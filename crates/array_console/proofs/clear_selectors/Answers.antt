@@ -1,0 +1,16 @@
+use Prim.Native.Nat.{◌-◌, ◌≤◌}
+use mathlib.Core.Path.{◌≡◌, refl}
+use native.Mathlib.Omega.{arith}
+use lib.ListN.{length, take, replicate, length-set}
+use Rattle.array_console.proofs.Clearing.{clear_on, clear_all}
+use borrow.Author.Rules.{rules}
+use Rattle.array_console.proofs.clear_selectors.Goals as goal
+
+pub loop-i-init : goal.loop-i-init
+loop-i-init c = (refl, omega arith, refl)
+
+pub loop-i-preserved : goal.loop-i-preserved
+loop-i-preserved c = (search rules, omega (arith, length-set c.loop-i.selectors c.loop-i.i 0), clear_on c.loop-i.selectors c.loop-i.i (omega arith) c.loop-i.invariant.2)
+
+pub returns : goal.returns
+returns c = clear_all c.loop-i.selectors c.loop-i.i _ (omega arith) c.loop-i.invariant.0 c.loop-i.invariant.2

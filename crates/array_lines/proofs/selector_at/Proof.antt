@@ -1,6 +1,0 @@
-use borrow.Author.Tests.{eq-eqb, ne_eqb}
-use Rattle.array_lines.proofs.selector_at.Statement.{statement}
-use Rattle.array_lines.proofs.selector_at.Tie as tie
-
-pub selector-at-spec : {M : Type 1} → statement M
-selector-at-spec = tie.close (tie.spec (λ c. search eq-eqb) (λ c. search (eq-eqb, ne_eqb)) (λ c. search ne_eqb))

@@ -1,0 +1,7 @@
+use mathlib.Core.Path.{refl}
+use Rattle.image_layout.specs.Format.{value}
+use Rattle.entry_forms.proofs.records.no_job.Goals as goal
+
+pub returns : goal.returns
+unfolding value
+returns c = refl
