@@ -1,22 +1,22 @@
-# What ./run and ./lib share: crates are proved with a line of progress. Sourced by them, with `root` the repository's folder, `took`
-# what proving all that they may ask for from nothing took, on two cores.
+# What ./run and ./lib share: a crate is proved and built in its own folder, with one line before it. Sourced by them, with `root` the
+# repository's folder.
 scratch=$(mktemp -d)
 prover=
 
-# Nothing that was started goes on behind an end: the provers are a process group of their own.
+# Nothing that was started goes on behind an end: the prover is a process group of its own.
 end() {
     [ -z "$prover" ] || kill -- "-$prover" 2>/dev/null || true
     rm -rf "$scratch"
 }
 trap end EXIT
-trap '[ ! -t 2 ] || echo >&2; exit 130' INT
+trap 'exit 130' INT
 trap 'exit 143' TERM HUP
 
 # needed CRATE..: the crates that these stand on, and themselves.
 needed() {
     awk -F: -v wanted="$*" '
-        { sub(/#.*/, "") }
-        NF > 1 { on[$1] = $2 }
+        { sub(/#.*/, ""); split($1, head, " ") }
+        NF > 1 { on[head[1]] = $2 }
         END {
             n = split(wanted, line, " ")
             for (i = 1; i <= n; i++) {
@@ -29,55 +29,30 @@ needed() {
     ' "$root/crates.txt"
 }
 
-# Says once, before the first crate is proved, how long it may take.
-warned=
-warn() {
-    [ -z "$warned" ] || return 0
-    warned=yes
-    echo "proving ${#crates[@]} crates, as far as they don't stand yet. For $took on two cores, from" \
-        'nothing; if it is stopped, the next run goes on where it was.' >&2
-}
-
-# One line that is written over and over. `rt` makes target/log/NAME.out when it comes to a crate and fills it at its end;
-# target/stamp/NAME is there if what was proved before still stands.
-progress() {
-    local crate out proved=0 work=()
-    for crate in "${crates[@]}"; do
-        out=$root/target/log/$crate.out
-        [ "$out" -nt "$scratch/begun" ] || continue
-        if grep -q "^rt: $crate proved" "$out"; then
-            proved=$((proved + 1))
-        elif [ ! -e "$root/target/stamp/$crate" ]; then
-            work+=("$crate")
-        fi
+# stands CRATE FILE: this file of the crate's out/ was made after every file that it was proved from.
+stands() {
+    local built=$root/crates/$1/out/$2 crate part from=("$root/crates.txt")
+    [ -e "$built" ] || return 1
+    for crate in $(needed "$1"); do
+        for part in src specs proofs; do
+            [ ! -d "$root/crates/$crate/$part" ] || from+=("$root/crates/$crate/$part")
+        done
     done
-    [ "${#work[@]}" -gt 0 ] || return 0
-    warn
-    [ -t 2 ] || return 0
-    printf '\r%s of %s crates proved, %s min, at work: %s' "$proved" "${#crates[@]}" $(((SECONDS - began) / 60)) "${work[0]}" >&2
-    [ "${#work[@]}" -eq 1 ] || printf ' and %s more' $((${#work[@]} - 1)) >&2
-    printf '\033[K' >&2
+    [ -z "$(find "${from[@]}" -newer "$built" -print -quit)" ]
 }
 
-# prove CRATE..: proves and builds them; what that says is shown only if it fails. Twice as many provers at a time as there are
-# cores, as ./test has them.
+# prove CRATE FILE COMMAND..: proves and builds this file of the crate's out/ by the command, in the crate's folder, unless it stands. What
+# the command says is shown only if it fails. A program's command runs it too, on no input.
 prove() {
-    local crate status=0
-    mapfile -t crates < <(needed "$@")
-    for crate in "${crates[@]}"; do
-        [ -e "$root/target/stamp/$crate" ] || warn
-    done
-    began=$SECONDS
-    touch "$scratch/begun"
+    local crate=$1 file=$2 status=0
+    shift 2
+    ! stands "$crate" "$file" || return 0
+    echo "proving $crate and what it stands on, $(needed "$crate" | wc -l) crates, as far as they don't stand yet: from nothing this takes an hour" \
+        'and more; if it is stopped, the next run goes on where it was.' >&2
     set -m
-    (cd "$root" && RT_JOBS=${RT_JOBS:-$((2 * $(nproc)))} exec rt check "$@") </dev/null >"$scratch/log" 2>&1 &
+    (cd "$root/crates/$crate" && "$@") </dev/null >"$scratch/log" 2>&1 &
     prover=$!
     set +m
-    while kill -0 "$prover" 2>/dev/null; do
-        sleep 0.5
-        progress
-    done
-    [ -z "$warned" ] || [ ! -t 2 ] || printf '\r\033[K' >&2
     wait "$prover" || status=$?
     prover=
     if [ "$status" -ne 0 ]; then

@@ -1,7 +1,7 @@
 #!/usr/bin/env python3
 """Holds include/dushvaneth.h against what it tells of, so that they can't drift:
 
-- the entry points' signatures in crates/*/src: names, and number, order, names and widths of the arguments
+- the entry points' signatures in crates/dushvaneth/src: names, and number, order, names and widths of the arguments
 - docs/REFUSALS.md: a constant for each number, with the table's plain words
 - itself: each function's comment says which numbers it returns
 
@@ -59,7 +59,7 @@ def argument(word, header_names):
 def signatures(header):
     declarations = declared(header)
     entries = {}
-    for file in sorted(glob.glob(os.path.join(ROOT, "crates/*/src/*.rt"))):
+    for file in sorted(glob.glob(os.path.join(ROOT, "crates/dushvaneth/src/*.rt"))):
         for name, words, kind in re.findall(r'pub extern "C" fn (\w+)\(([^)]*)\) -> (\w+)', read(file)):
             known = [b for _, b in declarations.get(name, (0, [], 0))[1]]
             lent = [argument(a, known) for a in words.split(",") if a.strip()]
