@@ -45,7 +45,8 @@ use Rattle.entry_forms.proofs.Recorded.{length_record}
 use Rattle.entry_rounds.specs.Entries as rounds
 use Rattle.entry_jobs.specs.Entries as jobs
 use Rattle.entry_images.specs.Entries as images
-use Rattle.entry_promises.proofs.Entered.{Keeps, wide_pulse_enters, plain_pulse_enters, answer_enters, round_enters, start_enters, step_enters, read_enters}
+use Rattle.entry_promises.proofs.Entered.{Keeps}
+use Rattle.entry_promises.proofs.Entering.{wide_pulse_enters, plain_pulse_enters, answer_enters, round_enters, start_enters, step_enters, read_enters}
 use Rattle.entry_pulses.specs.contracts.dushvaneth_wide_pulse as wide-pulse
 use Rattle.entry_pulses.proofs.dushvaneth_wide_pulse.Kinds as wide-pulse-kinds
 use Rattle.entry_pulses.proofs.dushvaneth_wide_pulse.Reads as wide-pulse-reads

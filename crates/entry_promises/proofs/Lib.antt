@@ -1,5 +1,6 @@
 -- the entry points' theorems: a reader opens these files
 pub mod Entered
+pub mod Entering
 pub mod Kept
 pub mod Lowest
 pub mod Retired

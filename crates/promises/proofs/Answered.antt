@@ -66,7 +66,8 @@ use Rattle.explainer.specs.declared.Explained.TheVariants as explains
 use Rattle.explainer.specs.Reasons as reasons
 use Rattle.explainer.specs.Reasons.{explain_check, reason_at, explained}
 use Rattle.explainer.proofs.Answers.{reason_answers}
-use Rattle.promises.proofs.Demand1.{Entry, answer_given, answer_table, explain_given, explain_table, first, given, machine_table, pulse_given, pulse_table, read_given, read_table, resolution_given, round_given, round_table, show_given, show_table, start_given, start_table, step_given, steps_table, total_given, total_table, write_given, write_table}
+use Rattle.promises.proofs.Demand1.{Entry, answer_table, explain_table, first, given, machine_table, pulse_table, read_table, round_table, show_table, start_table, steps_table, total_table, write_table}
+use Rattle.promises.proofs.Given.{answer_given, explain_given, pulse_given, read_given, resolution_given, round_given, show_given, start_given, step_given, total_given, write_given}
 
 -- ---- the answer tells that number and what it also answers: `tells..` is an answer's, 0 where the call is accepted
 

@@ -65,7 +65,8 @@ use Rattle.image.specs.declared.Read.TheVariants as back
 use Rattle.image.specs.declared.Wrote.TheVariants as wrote
 use Rattle.image.specs.Calls.{write_check, write_of, written, read_check, read_of, words_read, responses_read}
 use Rattle.promises.proofs.Answered.{passes, tells_answer, tells_explained, tells_resolved, tells_report, tells_started, tells_stepped, tells_total, tells_wrote, tells_read, pulse_tells, explain_tells, resolution_tells, show_tells, answer_tells, round_tells, start_tells, step_tells, total_tells, write_tells, read_tells, pulse_unchanged, answer_unchanged, round_unchanged, step_unchanged, write_unchanged, read_unchanged}
-use Rattle.promises.proofs.Demand1.{Entry, first, given, machine_table, pulse_table, explain_table, show_table, answer_table, round_table, start_table, steps_table, total_table, write_table, read_table, pulse_given, explain_given, resolution_given, show_given, answer_given, round_given, start_given, step_given, total_given, write_given, read_given}
+use Rattle.promises.proofs.Demand1.{Entry, first, given, machine_table, pulse_table, explain_table, show_table, answer_table, round_table, start_table, steps_table, total_table, write_table, read_table}
+use Rattle.promises.proofs.Given.{pulse_given, explain_given, resolution_given, show_given, answer_given, round_given, start_given, step_given, total_given, write_given, read_given}
 use Rattle.cells.specs.contracts.pulse as plain-pulse
 use Rattle.cells.proofs.pulse.Kinds as plain-pulse-kinds
 use Rattle.cells.proofs.pulse.Reads as plain-pulse-reads

@@ -129,9 +129,12 @@ module _ (κs : Lfts 2) (a : ArgsD explain.signature κs) (r : ResD explain.sign
       let c = (explain_meets κs a r s post).accepted h in
       rw c.1 (true_there m p k c.0)
 
+  matched_here : (tells_explained r).0 ≡ 0 → is_matched r ≡ picks m p k
+  matched_here h = matched_if m.width p _ _ r (answer_true h)
+
   -- ""matched" is said exactly when the search matches"
   pub matched_exactly : (tells_explained r).0 ≡ 0 → is_matched r ≡ picks m p k
-  matched_exactly h = matched_if m.width p _ _ r (answer_true h)
+  matched_exactly h = matched_here h
 
   -- "not selected, with the lowest response bit that differs"
   pub not_selected_true : (x : ResponseBit) → r ≡ NotSelected x → Unselected p (get_or m.responses k.0 0) x.0
@@ -156,7 +159,7 @@ module _ (κs : Lfts 2) (a : ArgsD explain.signature κs) (r : ResD explain.sign
       ap (λ (q : Machine). bit (get_or q.responses k.0 0) i) (met.1.leaves ∙ ap₂ (λ (m : Machine) (p : Panel). after m p l) e f)
       ∙ search_marks m p l passed raised k.0 i (within m p k ((explain_meets κs a r s post).accepted h).0) g
       ∙ ap (λ (b : Bool). pick b (digit (picks m p k)) (bit (get_or m.responses k.0 0) i)) (eq-eqb (bit p.target i) 1 t)
-      ∙ ap digit (sym (matched_exactly h))
+      ∙ ap digit (sym (matched_here h))
 
   pub wide_search_agrees : (tells_explained r).0 ≡ 0
       → (κs' : Lfts 2) (a' : ArgsD wide-pulse.signature κs') (r' : ResD wide-pulse.signature κs') (s' : AtExit (ended_of 2 wide-pulse-kinds.ps wide-pulse-kinds.r) κs')

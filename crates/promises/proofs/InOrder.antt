@@ -130,9 +130,12 @@ pub report_not_8 : (a : Report) → (tells_report a).0 ≡ 8 → ⊥
 report_not_8 (report.Ended d f) e = omega (arith, e)
 report_not_8 (report.Refused r) e = not_eight r e
 
+start_without_8 : (a : Started) → (tells_started a).0 ≡ 8 → ⊥
+start_without_8 (started.Holds o) e = omega (arith, e)
+start_without_8 (started.Refused r) e = not_eight r e
+
 pub started_not_8 : (a : Started) → (tells_started a).0 ≡ 8 → ⊥
-started_not_8 (started.Holds o) e = omega (arith, e)
-started_not_8 (started.Refused r) e = not_eight r e
+started_not_8 a e = start_without_8 a e
 
 pub stepped_not_8 : (a : Stepped) → (tells_stepped a).0 ≡ 8 → ⊥
 stepped_not_8 (stepped.Gave k c h) e = omega (arith, e)
@@ -157,4 +160,4 @@ pub eight_is_retired : ((a : Answer) → (tells_answer a).0 ≡ 8 → ⊥) × ((
     × ((a : Started) → (tells_started a).0 ≡ 8 → ⊥) × ((a : Stepped) → (tells_stepped a).0 ≡ 8 → ⊥) × ((a : Total) → (tells_total a).0 ≡ 8 → ⊥)
     × ((a : Wrote) → (tells_wrote a).0 ≡ 8 → ⊥) × ((a : Read) → (tells_read a).0 ≡ 8 → ⊥)
 eight_is_retired =
-    (answer_not_8, explained_not_8, resolved_not_8, reply_not_8, report_not_8, started_not_8, stepped_not_8, total_not_8, wrote_not_8, read_not_8)
+    (answer_not_8, explained_not_8, resolved_not_8, reply_not_8, report_not_8, start_without_8, stepped_not_8, total_not_8, wrote_not_8, read_not_8)

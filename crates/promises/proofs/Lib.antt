@@ -8,6 +8,7 @@ pub mod Demand2
 pub mod Demand3
 pub mod Explaining
 pub mod Figures
+pub mod Given
 pub mod InOrder
 pub mod JobFigures
 pub mod Kept
