@@ -47,8 +47,8 @@ prove() {
     local crate=$1 file=$2 status=0
     shift 2
     ! stands "$crate" "$file" || return 0
-    echo "proving $crate and what it stands on, $(needed "$crate" | wc -l) crates, as far as they don't stand yet: from nothing this takes an hour" \
-        'and more; if it is stopped, the next run goes on where it was.' >&2
+    echo "proving $crate and what it stands on, $(needed "$crate" | wc -l) crates, as far as they don't stand yet: from nothing this takes" \
+        'long; if it is stopped, the next run goes on where it was.' >&2
     set -m
     (cd "$root/crates/$crate" && "$@") </dev/null >"$scratch/log" 2>&1 &
     prover=$!
