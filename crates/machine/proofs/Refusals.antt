@@ -14,30 +14,33 @@ use lib.Pow.{pow_pos, pow_mono}
 use borrow.Author.Tests.{lt-ltb, le-ltb, le-leb, lt-leb, ltb-false, leb-false, not-false, eqb-true}
 use Rattle.laws.proofs.Digits.{tri}
 use Rattle.machine.specs.declared.Panel.{Panel}
-use Rattle.machine.specs.declared.Found.{Found}
-use Rattle.machine.specs.declared.Found.TheVariants.{At, Nothing}
 use Rattle.machine.specs.declared.Lines.{Lines}
+use Rattle.machine.specs.declared.WordSlice.{WordSlice}
+use Rattle.std.specs.Prelude.{Result, Ok, Err, Option, Some, None, IsErrAnd}
 use Rattle.machine.specs.declared.Refusal.{Refusal}
 use Rattle.machine.specs.declared.Refusal.TheVariants.{Size, Width, WordTooWide, PanelTooWide, TwoCodes, WrongLines, NoSuchWord, EmptySyllable, BeyondWord, Overlap, NoSuchBit, BitsClash, WrongJob, Malformed, NoRoom, NotShown}
-use Rattle.machine.specs.declared.Check.{Check}
-use Rattle.machine.specs.declared.Check.TheVariants.{Passed, Refused}
 use Rattle.machine.specs.Resolution.{lowest}
 use Rattle.machine.specs.Machine.{Machine}
-use Rattle.machine.specs.Refusals.{bad_size, bad_width, too_wide, bad_panel, bad_codes, bad_lines, bad_address, ◌else◌, refuse, refuse_word, machine_check, pulse_check, tells, numbers, turn}
+use Rattle.machine.specs.Refusals.{bad_size, bad_width, too_wide, bad_panel, bad_codes, bad_lines, bad_address, ◌else◌, Check, refuse, refuse_word, machine_check, pulse_check, tells, numbers, turn}
 
 -- ---- one link of a chain, in the code's terms: d is what the code answers, t its test
 
-pub refused : (r : Refusal) (t : Bool) (c : Check) → t ≡ true → Refused r ≡ (refuse r t else c)
+pub refused : (r : Refusal) (t : Bool) (c : Check) → t ≡ true → Err r ≡ (refuse r t else c)
 refused r t c h = rw h
 
 pub onward : (r : Refusal) (t : Bool) (c d : Check) → t ≡ false → d ≡ c → d ≡ (refuse r t else c)
 onward r t c d h e = rw h e
 
+-- what `?` hands on is the very refusal
+pub handed : {A : Type 0} (d : Result A Refusal) (e : Refusal) → IsErrAnd d (λ y. y ≡ e) → d ≡ Err e
+handed (Ok x) e h = absurd h
+handed (Err y) e h = ap Err h
+
 -- the last link
-pub last : (r : Refusal) (t : Bool) → t ≡ true → Refused r ≡ refuse r t
+pub last : (r : Refusal) (t : Bool) → t ≡ true → Err r ≡ refuse r t
 last r t h = rw h
 
-pub none : (r : Refusal) (t : Bool) → t ≡ false → Passed ≡ refuse r t
+pub none : (r : Refusal) (t : Bool) → t ≡ false → (Ok tt) ≡ refuse r t
 none r t h = rw h
 
 -- ---- a number too wide, by its bits at and above bit n
@@ -56,7 +59,7 @@ never n x h g = sym (lt-leb (2 ^ n) x (omega (arith, pow_mono h)))
 
 -- ---- the lowest that passes a test
 
-pub lowest_here : (test : ℕ → Bool) (xs : List ℕ) (i : ℕ) → i < length xs → test (get_or xs i 0) ≡ true → lowest test i (drop i xs) ≡ At (record { 0 = i })
+pub lowest_here : (test : ℕ → Bool) (xs : List ℕ) (i : ℕ) → i < length xs → test (get_or xs i 0) ≡ true → lowest test i (drop i xs) ≡ Some (record { 0 = i })
 unfolding lowest
 lowest_here test xs i h e = rw (drop-cons xs i 0) (rw e refl)
 
@@ -65,11 +68,11 @@ pub lowest_later : (test : ℕ → Bool) (xs : List ℕ) (i : ℕ) → i < lengt
 unfolding lowest
 lowest_later test xs i h e = rw (add-one i, drop-cons xs i 0) (rw e refl)
 
-pub lowest_end : (test : ℕ → Bool) (xs : List ℕ) (i : ℕ) → length xs ≤ i → lowest test i (drop i xs) ≡ Nothing
+pub lowest_end : (test : ℕ → Bool) (xs : List ℕ) (i : ℕ) → length xs ≤ i → lowest test i (drop i xs) ≡ None
 unfolding lowest
 lowest_end test xs i h = rw (drop_of_length-le xs h)
 
-pub none_lowest : (n k : ℕ) (ws : List ℕ) → ((j : ℕ) → j < length ws → get_or ws j 0 < 2 ^ n) → lowest (too_wide n) k ws ≡ Nothing
+pub none_lowest : (n k : ℕ) (ws : List ℕ) → ((j : ℕ) → j < length ws → get_or ws j 0 < 2 ^ n) → lowest (too_wide n) k ws ≡ None
 unfolding lowest
 none_lowest n k [] h = refl
 none_lowest n k (w ∷ ws) h = rw (lt-leb (2 ^ n) w (h 0 (omega arith))) (none_lowest n (suc k) ws (λ j g. h (suc j) (omega arith)))
@@ -105,21 +108,21 @@ not_eight r e = not_listed 8 (tells r).0 (listed r) e (omega arith)
 
 -- ---- what a check that is passed shows
 
-pub else_passed : (c d : Check) → (c else d) ≡ Passed → (c ≡ Passed) × (d ≡ Passed)
-else_passed Passed d h = (refl, h)
-else_passed (Refused r) d h = (cc, cc)
+pub else_passed : (c d : Check) → (c else d) ≡ Ok tt → (c ≡ Ok tt) × (d ≡ Ok tt)
+else_passed (Ok tt) d h = (refl, h)
+else_passed (Err r) d h = (cc, cc)
 
 pub else_assoc : (b c d : Check) → ((b else c) else d) ≡ (b else c else d)
-else_assoc Passed c d = refl
-else_assoc (Refused r) c d = refl
+else_assoc (Ok tt) c d = refl
+else_assoc (Err r) c d = refl
 
-pub else_refused : (r : Refusal) (c d : Check) → c ≡ Refused r → Refused r ≡ (c else d)
+pub else_refused : (r : Refusal) (c d : Check) → c ≡ Err r → Err r ≡ (c else d)
 else_refused r c d h = rw h
 
-pub else_next : (c d e : Check) → c ≡ Passed → e ≡ d → e ≡ (c else d)
+pub else_next : (c d e : Check) → c ≡ Ok tt → e ≡ d → e ≡ (c else d)
 else_next c d e h g = rw h g
 
-pub not_refused : (r : Refusal) (t : Bool) → refuse r t ≡ Passed → t ≡ false
+pub not_refused : (r : Refusal) (t : Bool) → refuse r t ≡ Ok tt → t ≡ false
 not_refused r true h = cc
 not_refused r false h = refl
 
@@ -144,17 +147,17 @@ pub size_same : (n k : ℕ) → bad_size n k ≡ false → k ≡ n
 unfolding bad_size
 size_same n k h = eqb-true k n (not-false (eqb k n) (or_right (ltb 1024 n) (not (eqb k n)) (or_right (eqb n 0) (ltb 1024 n || not (eqb k n)) h)))
 
-no_word : (f : Found) → refuse_word f ≡ Passed → f ≡ Nothing
-no_word (At k) h = cc
-no_word Nothing h = refl
+no_word : (f : Option WordSlice) → refuse_word f ≡ Ok tt → f ≡ None
+no_word (Some k) h = cc
+no_word None h = refl
 
 -- a machine that passes 1 to 3
 pub record Sound (m : Machine) : Type 0 where
   pub size : bad_size (length m.words) (length m.responses) ≡ false
   pub width : bad_width m.width ≡ false
-  pub words : lowest (too_wide m.width) 0 m.words ≡ Nothing
+  pub words : lowest (too_wide m.width) 0 m.words ≡ None
 
-pub sound : (m : Machine) → machine_check m ≡ Passed → Sound m
+pub sound : (m : Machine) → machine_check m ≡ Ok tt → Sound m
 unfolding machine_check
 sound m h =
     let a = else_passed (refuse Size (bad_size (length m.words) (length m.responses))) _ h in
@@ -169,7 +172,7 @@ pub record Clean (m : Machine) (p : Panel) (l : Lines) : Type 0 where
   pub lines : bad_lines l ≡ false
   pub address : bad_address (length m.words) p l ≡ false
 
-pub clean : (m : Machine) (p : Panel) (l : Lines) → pulse_check m p l ≡ Passed → Clean m p l
+pub clean : (m : Machine) (p : Panel) (l : Lines) → pulse_check m p l ≡ Ok tt → Clean m p l
 unfolding pulse_check
 clean m p l h =
     let a = else_passed (machine_check m) _ h in

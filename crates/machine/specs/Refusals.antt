@@ -1,21 +1,17 @@
 -- Document 01, 'Numbers given when a call is turned down', with 4 and 5 as document 02, request c, has them and 20 to 25 of its request d: the
 -- conditions of 1 to 7 and of response bits, the numbers and their order, and what a pulse answers and leaves.
-use Rattle.std.specs.Prelude.{ℕ, ◌+◌, ◌^◌, Bool, true, false, not, ◌&&◌, ◌||◌, List, [], ◌∷◌, ltb, leb, eqb, length}
+use Rattle.std.specs.Prelude.{ℕ, ◌+◌, ◌^◌, Bool, true, false, not, ◌&&◌, ◌||◌, List, [], ◌∷◌, ltb, leb, eqb, length, Result, Ok, Err, Option, Some, None}
 use Rattle.laws.specs.Bits.{bit, digit, pick}
 use Rattle.laws.specs.Lists.{all}
 use Rattle.machine.specs.declared.Panel.{Panel}
 use Rattle.machine.specs.declared.Lines.{Lines}
 use Rattle.machine.specs.declared.ResponseBit.{ResponseBit}
-use Rattle.machine.specs.declared.Found.{Found}
-use Rattle.machine.specs.declared.Found.TheVariants.{At, Nothing}
+use Rattle.machine.specs.declared.WordSlice.{WordSlice}
 use Rattle.machine.specs.declared.Syllable.{Syllable}
 use Rattle.machine.specs.declared.Syllable.TheVariants.{A, B, P}
 use Rattle.machine.specs.declared.Refusal.{Refusal}
 use Rattle.machine.specs.declared.Refusal.TheVariants.{Size, Width, WordTooWide, PanelTooWide, TwoCodes, WrongLines, NoSuchWord, EmptySyllable, BeyondWord, Overlap, NoSuchBit, BitsClash, WrongJob, Malformed, NoRoom, NotShown}
-use Rattle.machine.specs.declared.Check.{Check}
-use Rattle.machine.specs.declared.Check.TheVariants as check
 use Rattle.machine.specs.declared.Answer.{Answer}
-use Rattle.machine.specs.declared.Answer.TheVariants as answer
 use Rattle.machine.specs.Machine.{Machine, response_bits, syllables}
 use Rattle.machine.specs.Search.{unmixed}
 use Rattle.machine.specs.Pulse.{count_of, read_of, pulsed}
@@ -59,25 +55,29 @@ bad_address n p l = (l.read || l.write || l.add) && leb n p.address.0
 
 -- ---- "Checked in number order; given exactly then."
 
+-- what checking a call finds: nothing wrong, or the refusal
+abbrev pub Check : Type 0
+Check = Result (Unit {0}) Refusal
+
 infixr 20 ◌else◌
 -- the first check, and where it passes the second
 abbrev pub ◌else◌ : Check → Check → Check
-check.Passed else c = c
-check.Refused r else c = check.Refused r
+(Ok tt) else c = c
+Err r else c = Err r
 
 abbrev pub refuse : Refusal → Bool → Check
-refuse r true = check.Refused r
-refuse r false = check.Passed
+refuse r true = Err r
+refuse r false = (Ok tt)
 
 -- 3 also answers the "lowest such word"
-abbrev pub refuse_word : Found → Check
-refuse_word (At k) = check.Refused (WordTooWide k)
-refuse_word Nothing = check.Passed
+abbrev pub refuse_word : Option WordSlice → Check
+refuse_word (Some k) = Err (WordTooWide k)
+refuse_word None = (Ok tt)
 
 -- a check passes
 abbrev pub passes : Check → Bool
-passes check.Passed = true
-passes (check.Refused r) = false
+passes (Ok tt) = true
+passes (Err r) = false
 
 -- "resolution for 1 to 3", and every other call first
 unfoldable pub machine_check : Machine → Check
@@ -115,18 +115,18 @@ care_check care x = refuse BitsClash (in_care care x)
 
 -- ---- what a pulse answers, and what stands in the machine afterwards
 
--- a refusal's answer, or where the check passes the call's own
-abbrev pub answer_by : {A : Type 0} → Check → (Refusal → A) → A → A
-answer_by check.Passed turned done = done
-answer_by (check.Refused r) turned done = turned r
+-- a refusal, or where the check passes the call's own answer
+abbrev pub answer_by : {A : Type 0} → Check → A → Result A Refusal
+answer_by (Ok tt) done = Ok done
+answer_by (Err r) done = Err r
 
-unfoldable pub answer_of : Machine → Panel → Lines → Answer
-answer_of m p l = answer_by (pulse_check m p l) answer.Refused (answer.Done (count_of m p l) (read_of m p l))
+unfoldable pub answer_of : Machine → Panel → Lines → Result Answer Refusal
+answer_of m p l = answer_by (pulse_check m p l) (record { count = count_of m p l; read = read_of m p l })
 
 -- "Nothing lent changes"
 abbrev pub change_by : {A : Type 0} → Check → A → A → A
-change_by check.Passed new old = new
-change_by (check.Refused r) new old = old
+change_by (Ok tt) new old = new
+change_by (Err r) new old = old
 
 unfoldable pub after : Machine → Panel → Lines → Machine
 after m p l = change_by (pulse_check m p l) (pulsed m p l) m
@@ -184,6 +184,6 @@ pub record Told : Type 0 where
   pub count : ℕ
   pub read : ℕ
 
-abbrev pub told : Answer → Told
-told (answer.Done c w) = record { refusal = 0; also = 0; count = c; read = w }
-told (answer.Refused r) = record { refusal = number_of r; also = also_answers r; count = 0; read = 0 }
+abbrev pub told : Result Answer Refusal → Told
+told (Ok a) = record { refusal = 0; also = 0; count = a.count; read = a.read }
+told (Err r) = record { refusal = number_of r; also = also_answers r; count = 0; read = 0 }

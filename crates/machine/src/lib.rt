@@ -16,14 +16,14 @@ pub type Response = u8;
 pub const RESPONSE_BITS: u32 = 8;
 
 // "Bit-slices and word-slices are numbered apart, and neither number stands for the other."
-#[derive(Clone, Copy)]
+#[derive(Clone, Copy, PartialEq, Eq)]
 pub struct WordSlice(pub usize);
 
-#[derive(Clone, Copy)]
+#[derive(Clone, Copy, PartialEq, Eq)]
 pub struct BitSlice(pub u8);
 
 // The number of a response bit; it is no bit-slice's and no word-slice's.
-#[derive(Clone, Copy)]
+#[derive(Clone, Copy, PartialEq, Eq)]
 pub struct ResponseBit(pub u8);
 
 // "The panel holds five N-bit registers .., three 8-bit ones .. and an address."
@@ -146,7 +146,7 @@ pub struct Lines {
 }
 
 // The code of a bit in a search.
-#[derive(Clone, Copy)]
+#[derive(Clone, Copy, PartialEq, Eq)]
 pub enum Code {
     DontCare,
     Exact,
@@ -155,18 +155,11 @@ pub enum Code {
 }
 
 // What a syllable's cells pass on from top bit to bottom.
-#[derive(Clone, Copy)]
+#[derive(Clone, Copy, PartialEq, Eq)]
 pub enum Status {
     Equal,
     For,
     Against,
-}
-
-// A word, or none.
-#[derive(Clone, Copy)]
-pub enum Found {
-    At(WordSlice),
-    Nothing,
 }
 
 // The syllable of a job that a refusal names. 02 d: "A before B before P".
@@ -222,13 +215,16 @@ pub fn number_of(why: Refusal) -> u64
     }
 }
 
-fn value_of(syllable: Syllable) -> u64
-    ensures { result ≡ value_of syllable }
-{
-    match syllable {
-        Syllable::A => 1,
-        Syllable::B => 2,
-        Syllable::P => 3,
+// The value that names it.
+impl From<Syllable> for u64 {
+    ghost from_gives = { λ syllable value. value ≡ value_of syllable };
+
+    fn from(syllable: Syllable) -> u64 {
+        match syllable {
+            Syllable::A => 1,
+            Syllable::B => 2,
+            Syllable::P => 3,
+        }
     }
 }
 
@@ -237,22 +233,22 @@ pub fn also_of(why: Refusal) -> u64
     ensures { result ≡ also_answers why }
 {
     match why {
-        Refusal::Size => 0,
-        Refusal::Width => 0,
         Refusal::WordTooWide(word) => word.0 as u64,
-        Refusal::PanelTooWide => 0,
-        Refusal::TwoCodes => 0,
-        Refusal::WrongLines => 0,
-        Refusal::NoSuchWord => 0,
-        Refusal::EmptySyllable(syllable) => value_of(syllable),
-        Refusal::BeyondWord(syllable) => value_of(syllable),
-        Refusal::Overlap(syllable) => value_of(syllable),
-        Refusal::NoSuchBit => 0,
-        Refusal::BitsClash => 0,
-        Refusal::WrongJob => 0,
+        Refusal::EmptySyllable(syllable) => u64::from(syllable),
+        Refusal::BeyondWord(syllable) => u64::from(syllable),
+        Refusal::Overlap(syllable) => u64::from(syllable),
         Refusal::Malformed(place) => place as u64,
-        Refusal::NoRoom => 0,
-        Refusal::NotShown => 0,
+        Refusal::Size
+        | Refusal::Width
+        | Refusal::PanelTooWide
+        | Refusal::TwoCodes
+        | Refusal::WrongLines
+        | Refusal::NoSuchWord
+        | Refusal::NoSuchBit
+        | Refusal::BitsClash
+        | Refusal::WrongJob
+        | Refusal::NoRoom
+        | Refusal::NotShown => 0,
     }
 }
 
@@ -280,18 +276,11 @@ pub fn turn_of(why: Refusal) -> u64
     }
 }
 
-// What checking a call finds.
+// What a pulse that is not turned down answers.
 #[derive(Clone, Copy)]
-pub enum Check {
-    Passed,
-    Refused(Refusal),
-}
-
-// What a pulse answers: the count and the word read, or the refusal.
-#[derive(Clone, Copy)]
-pub enum Answer {
-    Done { count: usize, read: u64 },
-    Refused(Refusal),
+pub struct Answer {
+    pub count: usize,
+    pub read: u64,
 }
 
 // ---- words and responses
@@ -320,24 +309,18 @@ pub fn response_of(x: u64) -> Response
 
 // ---- a chain of checks: "Checked in number order"
 
-pub fn refuse(why: Refusal, when: bool) -> Check
+pub fn refuse(why: Refusal, when: bool) -> Result<(), Refusal>
     ensures { result ≡ refuse why when }
 {
-    if when {
-        Check::Refused(why)
-    } else {
-        Check::Passed
-    }
+    if when { Err(why) } else { Ok(()) }
 }
 
 // The first check, and where it passes the second.
-pub fn in_order(first: Check, second: Check) -> Check
+pub fn in_order(first: Result<(), Refusal>, second: Result<(), Refusal>) -> Result<(), Refusal>
     ensures { result ≡ (first else second) }
 {
-    match first {
-        Check::Passed => second,
-        Check::Refused(why) => Check::Refused(why),
-    }
+    first?;
+    second
 }
 
 // ---- the checks that calls share, in the table's order
@@ -366,25 +349,23 @@ pub fn too_wide(width: u32, x: u64) -> bool
     }
 }
 
-fn first_too_wide(width: u32, words: &[u64]) -> Found
+fn first_too_wide(width: u32, words: &[u64]) -> Option<WordSlice>
     ensures { result ≡ lowest (too_wide width) 0 words.now }
 {
-    let mut i: usize = 0;
-    while i < words.len() {
-        if too_wide(width, words[i]) {
-            return Found::At(WordSlice(i));
+    for (i, word) in words.iter().enumerate() {
+        if too_wide(width, *word) {
+            return Some(WordSlice(i));
         }
-        i += 1;
     }
-    Found::Nothing
+    None
 }
 
-fn refuse_word(found: Found) -> Check
+fn refuse_word(found: Option<WordSlice>) -> Result<(), Refusal>
     ensures { result ≡ refuse_word found }
 {
     match found {
-        Found::At(k) => Check::Refused(Refusal::WordTooWide(k)),
-        Found::Nothing => Check::Passed,
+        Some(k) => Err(Refusal::WordTooWide(k)),
+        None => Ok(()),
     }
 }
 
@@ -392,40 +373,31 @@ fn refuse_word(found: Found) -> Check
 fn union_of(words: &[u64]) -> u64
     ensures { result ≡ union 0 words.now }
 {
-    let mut all: u64 = 0;
-    let mut i: usize = 0;
-    while i < words.len() {
-        all |= words[i];
-        i += 1;
-    }
-    all
+    words.iter().fold(0, |all, word| all | *word)
 }
 
 // 3: the OR of all words first, and the scan for the lowest only if that is too wide.
-fn check_words(width: u32, words: &[u64]) -> Check
+fn check_words(width: u32, words: &[u64]) -> Result<(), Refusal>
     ensures { result ≡ refuse_word (lowest (too_wide width) 0 words.now) }
 {
     if width < 64 {
         if too_wide(width, union_of(words)) {
             refuse_word(first_too_wide(width, words))
         } else {
-            Check::Passed
+            Ok(())
         }
     } else {
-        Check::Passed
+        Ok(())
     }
 }
 
 // 1 to 3: what every call that is lent a machine is checked for first.
-pub fn check_machine(words: &[u64], responses: &[Response], width: u32) -> Check
+#[tactic(auto, using(crate::proofs::Refusals::handed), unfolding(crate::specs::Refusals::machine_check))]
+pub fn check_machine(words: &[u64], responses: &[Response], width: u32) -> Result<(), Refusal>
     ensures { result ≡ machine_check (machine width words.now responses.now) }
 {
-    if bad_size(words.len(), responses.len()) {
-        return Check::Refused(Refusal::Size);
-    }
-    if bad_width(width) {
-        return Check::Refused(Refusal::Width);
-    }
+    refuse(Refusal::Size, bad_size(words.len(), responses.len()))?;
+    refuse(Refusal::Width, bad_width(width))?;
     check_words(width, words)
 }
 
@@ -440,22 +412,16 @@ pub fn bad_panel(width: u32, panel: Panel) -> bool
         | too_wide(width, panel.sc3)
 }
 
-fn digit_of(raised: bool) -> u32
-    ensures { (result ≡ digit raised) × (result ≤ 1) }
-{
-    if raised { 1 } else { 0 }
-}
-
 fn bad_lines(lines: Lines) -> bool
     ensures { result ≡ bad_lines lines }
 {
-    let raised = digit_of(lines.search)
-        + digit_of(lines.read)
-        + digit_of(lines.write)
-        + digit_of(lines.add)
-        + digit_of(lines.multiwrite)
-        + digit_of(lines.multiadd)
-        + digit_of(lines.complement);
+    let raised = u32::from(lines.search)
+        + u32::from(lines.read)
+        + u32::from(lines.write)
+        + u32::from(lines.add)
+        + u32::from(lines.multiwrite)
+        + u32::from(lines.multiadd)
+        + u32::from(lines.complement);
     (raised == 0) | (2 < raised) | (lines.complement & !(raised == 1))
 }
 
@@ -466,32 +432,27 @@ fn bad_address(words: usize, panel: Panel, lines: Lines) -> bool
 }
 
 // 6 and 7.
-pub fn check_command(words: usize, panel: Panel, lines: Lines) -> Check
+pub fn check_command(words: usize, panel: Panel, lines: Lines) -> Result<(), Refusal>
     ensures { result ≡ command_check words panel lines }
 {
-    if bad_lines(lines) {
-        return Check::Refused(Refusal::WrongLines);
-    }
-    if bad_address(words, panel, lines) {
-        return Check::Refused(Refusal::NoSuchWord);
-    }
-    Check::Passed
+    refuse(Refusal::WrongLines, bad_lines(lines))?;
+    refuse(Refusal::NoSuchWord, bad_address(words, panel, lines))
 }
 
 // ---- 02 d, of response bits: what jobs and rounds share
 
 // 23: "response bit above 7"
-pub fn check_bit(x: ResponseBit) -> Check
+pub fn check_bit(x: ResponseBit) -> Result<(), Refusal>
     ensures { result ≡ bit_check x }
 {
     refuse(Refusal::NoSuchBit, RESPONSE_BITS <= x.0 as u32)
 }
 
 // 24: "working bits clash"
-pub fn check_apart(x: ResponseBit, y: ResponseBit) -> Check
+pub fn check_apart(x: ResponseBit, y: ResponseBit) -> Result<(), Refusal>
     ensures { result ≡ apart_check x y }
 {
-    refuse(Refusal::BitsClash, x.0 == y.0)
+    refuse(Refusal::BitsClash, x == y)
 }
 
 // No response has a bit above its last, so care has none there either.
@@ -507,7 +468,7 @@ fn in_care(care: Response, x: ResponseBit) -> bool
 }
 
 // 24: "or stand in care"
-pub fn check_care(care: Response, x: ResponseBit) -> Check
+pub fn check_care(care: Response, x: ResponseBit) -> Result<(), Refusal>
     ensures { result ≡ care_check care x }
 {
     refuse(Refusal::BitsClash, in_care(care, x))

@@ -1,16 +1,25 @@
-use Rattle.machine.specs.Refusals.{bad_lines}
+-- A line's byte is its digit.
+use mathlib.Core.Path.{◌≡◌, refl, ◌∙◌}
+use mathlib.Core.Bool.{Bool, true, false}
+use mir.Val.{bool_byte}
 use borrow.Author.Rules.{rules}
+use Rattle.laws.specs.Bits.{digit}
+use Rattle.machine.specs.Refusals.{bad_lines}
 use Rattle.machine.proofs.bad_lines.Goals as goal
+
+as_digit : (b : Bool) → bool_byte b ≡ digit b
+as_digit true = refl
+as_digit false = refl
 
 pub returns : goal.returns
 unfolding bad_lines
 returns c =
     rw (
-      c.digit_of.ensures.0,
-      c.digit_of-2.ensures.0,
-      c.digit_of-3.ensures.0,
-      c.digit_of-4.ensures.0,
-      c.digit_of-5.ensures.0,
-      c.digit_of-6.ensures.0,
-      c.digit_of-7.ensures.0,
+      c.from.ensures ∙ as_digit _,
+      c.from-2.ensures ∙ as_digit _,
+      c.from-3.ensures ∙ as_digit _,
+      c.from-4.ensures ∙ as_digit _,
+      c.from-5.ensures ∙ as_digit _,
+      c.from-6.ensures ∙ as_digit _,
+      c.from-7.ensures ∙ as_digit _,
     )
