@@ -1,6 +1,6 @@
 -- From what the plain machine's cells give to what document 01 says of one word in one pulse, and of all of them.
 use Prim.Native.Nat.{ℕ}
-use mathlib.Core.Path.{◌≡◌, ap, ap₂, ◌∙◌}
+use mathlib.Core.Path.{◌≡◌, ap, ◌∙◌}
 use mathlib.Core.Bool.{Bool, true, false, ◌&&◌, ◌||◌}
 use mathlib.Core.List.{List}
 use lib.Dec.{eqb}
@@ -11,8 +11,7 @@ use Rattle.laws.specs.Lists.{all, zip, count}
 use Rattle.machine.specs.declared.Panel.{Panel}
 use Rattle.machine.specs.declared.Lines.{Lines}
 use Rattle.machine.specs.declared.Refusal.{Refusal}
-use Rattle.machine.specs.declared.Check.TheVariants as check
-use Rattle.machine.specs.declared.Answer.TheVariants as answer
+use Rattle.std.specs.Prelude.{Ok, Err}
 use Rattle.machine.specs.Machine.{machine, syllables, selected}
 use Rattle.machine.specs.Search.{unmixed, matches, marked}
 use Rattle.machine.specs.Cells.{cells_match}
@@ -54,14 +53,14 @@ module _ (n : ℕ) (p : Panel) (l : Lines) (k w r : ℕ) where
 -- ---- the whole call
 
 module _ (n : ℕ) (ws rs : List ℕ) (p : Panel) (l : Lines) where
-  pub call_done : (c r : ℕ) (ws' rs' : List ℕ) → pulse_check (machine n ws rs) p l ≡ check.Passed
+  pub call_done : (c r : ℕ) (ws' rs' : List ℕ) → pulse_check (machine n ws rs) p l ≡ Ok tt
       → c ≡ count (counts n p l) ws rs → r ≡ pick l.read (get_or ws p.address.0 0) 0
       → ws' ≡ zip (word_after n p l) 0 ws rs → rs' ≡ zip (response_after n p l) 0 ws rs
-      → (answer.Done c r ≡ answer_of (machine n ws rs) p l) × ((ws' ≡ (after (machine n ws rs) p l).words) × (rs' ≡ (after (machine n ws rs) p l).responses))
+      → (Ok (record { count = c; read = r }) ≡ answer_of (machine n ws rs) p l) × ((ws' ≡ (after (machine n ws rs) p l).words) × (rs' ≡ (after (machine n ws rs) p l).responses))
   unfolding answer_of after pulsed count_of read_of
-  call_done c r ws' rs' h ec er ew es = (rw h (ap₂ answer.Done ec er), (rw h ew, rw h es))
+  call_done c r ws' rs' h ec er ew es = (rw (h, ec, er), (rw h ew, rw h es))
 
-  pub call_refused : (why : Refusal) → pulse_check (machine n ws rs) p l ≡ check.Refused why
-      → (answer.Refused why ≡ answer_of (machine n ws rs) p l) × ((ws ≡ (after (machine n ws rs) p l).words) × (rs ≡ (after (machine n ws rs) p l).responses))
+  pub call_refused : (why : Refusal) → pulse_check (machine n ws rs) p l ≡ Err why
+      → (Err why ≡ answer_of (machine n ws rs) p l) × ((ws ≡ (after (machine n ws rs) p l).words) × (rs ≡ (after (machine n ws rs) p l).responses))
   unfolding answer_of after
   call_refused why h = (rw h, (rw h, rw h))

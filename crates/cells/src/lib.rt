@@ -11,7 +11,7 @@ ghost use Rattle.machine.specs.Pulse.{flipped, word_after, response_after, count
 ghost use Rattle.machine.specs.Refusals.{bad_width, bad_codes, pulse_check, answer_of, after};
 
 use chains::{add, bits, search};
-use machine::{Answer, Check, Lines, Panel, RESPONSE_BITS, Refusal, Response};
+use machine::{Answer, Lines, Panel, RESPONSE_BITS, Refusal, Response, refuse};
 
 // ---- responses
 
@@ -87,15 +87,11 @@ fn turn_all(
     ensures responses_after { responses.new ≡ zip (response_after width panel lines) 0 words.old responses.old }
 {
     let mut counted: usize = 0;
-    let mut k: usize = 0;
-    while k < words.len() {
+    for k in 0..words.len() {
         let t = turn(width, panel, lines, k, words[k], responses[k]);
         words[k] = t.word;
         responses[k] = t.response;
-        if t.counted {
-            counted += 1;
-        }
-        k += 1;
+        counted += usize::from(t.counted);
     }
     counted
 }
@@ -103,9 +99,8 @@ fn turn_all(
 fn read_word(panel: Panel, lines: Lines, words: &[u64]) -> u64
     ensures { result ≡ pick lines.read (get_or words.now panel.address.0 0) 0 }
 {
-    let k = panel.address.0;
     if lines.read {
-        if k < words.len() { words[k] } else { 0 }
+        words.get(panel.address.0).copied().unwrap_or(0)
     } else {
         0
     }
@@ -120,19 +115,19 @@ fn bad_codes(width: u32, panel: Panel, lines: Lines) -> bool
     lines.search & !search::all_unmixed(width, panel)
 }
 
-pub fn check(words: &[u64], responses: &[Response], width: u32, panel: Panel, lines: Lines) -> Check
+#[tactic(auto, using(machine::proofs::Refusals::handed), unfolding(machine::specs::Refusals::pulse_check))]
+pub fn check(
+    words: &[u64],
+    responses: &[Response],
+    width: u32,
+    panel: Panel,
+    lines: Lines,
+) -> Result<(), Refusal>
     ensures { result ≡ pulse_check (machine width words.now responses.now) panel lines }
 {
-    let first = machine::check_machine(words, responses, width);
-    if let Check::Refused(why) = first {
-        return Check::Refused(why);
-    }
-    if machine::bad_panel(width, panel) {
-        return Check::Refused(Refusal::PanelTooWide);
-    }
-    if bad_codes(width, panel, lines) {
-        return Check::Refused(Refusal::TwoCodes);
-    }
+    machine::check_machine(words, responses, width)?;
+    refuse(Refusal::PanelTooWide, machine::bad_panel(width, panel))?;
+    refuse(Refusal::TwoCodes, bad_codes(width, panel, lines))?;
     machine::check_command(words.len(), panel, lines)
 }
 
@@ -144,15 +139,13 @@ pub fn pulse(
     width: u32,
     panel: Panel,
     lines: Lines,
-) -> Answer
+) -> Result<Answer, Refusal>
     ensures value { result ≡ answer_of (machine width words.old responses.old) panel lines }
     ensures words_after { words.new ≡ (after (machine width words.old responses.old) panel lines).words }
     ensures responses_after { responses.new ≡ (after (machine width words.old responses.old) panel lines).responses }
 {
-    if let Check::Refused(why) = check(words, responses, width, panel, lines) {
-        return Answer::Refused(why);
-    }
+    check(words, responses, width, panel, lines)?;
     let read = read_word(panel, lines, words);
     let count = turn_all(width, panel, lines, words, responses);
-    Answer::Done { count, read }
+    Ok(Answer { count, read })
 }

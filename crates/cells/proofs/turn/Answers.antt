@@ -1,6 +1,5 @@
 use Rattle.machine.proofs.Refusals as checks
 use Rattle.cells.proofs.Turns as turns
-use borrow.Author.Rules.{rules}
 use Rattle.cells.proofs.turn.Goals as goal
 
 pub change_word-word-requires : goal.change_word-word-requires

@@ -1,14 +1,15 @@
-use Prim.Native.Nat.{◌+◌, ◌-◌}
-use mathlib.Core.Path.{◌≡◌, sym, ap, ◌∙◌}
-use Rattle.laws.proofs.Walk.{Walk, start, step, done}
-use Rattle.laws.specs.Bits.{digit}
-use lib.ListN.{length}
-use mathlib.Core.Bool.{Bool}
-use native.Mathlib.Omega.{arith}
-use Rattle.machine.specs.Pulse.{word_after, response_after, counts}
+use mathlib.Core.Path.{◌≡◌, refl, ◌∙◌}
+use mathlib.Core.Bool.{Bool, true, false}
+use mir.Val.{bool_byte}
 use borrow.Author.Rules.{rules}
+use Rattle.laws.specs.Bits.{digit}
+use Rattle.laws.proofs.Walk.{start, step, done}
+use Rattle.machine.specs.Pulse.{word_after, response_after, counts}
 use Rattle.cells.proofs.turn_all.Goals as goal
-use Rattle.cells.proofs.turn_all.Goals.{then-t, else-t}
+
+as_digit : (b : Bool) → bool_byte b ≡ digit b
+as_digit true = refl
+as_digit false = refl
 
 pub loop-k-init : goal.loop-k-init
 loop-k-init c = start _ _ _ _ _ c.requires.responses_len
@@ -17,12 +18,7 @@ pub loop-k-preserved : goal.loop-k-preserved
 loop-k-preserved c =
     let a = c.args in
     let t = c.turn-t in
-    let e : c.if-t.counted ≡ c.loop-k.counted + digit t.result.counted =
-    elim c.if-t.branch [
-      | then-t w ↦ w.counted-is ∙ sym (ap (λ (b : Bool). c.loop-k.counted + digit b) w.if-t.true)
-      | else-t w ↦ w.counted-is ∙ omega (arith, ap (λ (b : Bool). c.loop-k.counted + digit b) w.if-t.false)
-    ] in
-    rw e
+    rw (c.from-counted.ensures ∙ as_digit t.result.counted)
     (step (word_after a.width a.panel a.lines) (response_after a.width a.panel a.lines) (counts a.width a.panel a.lines)
     a.words.now a.responses.now c.loop-k.words c.loop-k.responses c.loop-k.counted c.loop-k.k
     t.result.word t.result.response t.result.counted c.loop-k.invariant (search rules) t.ensures.0 t.ensures.1 t.ensures.2)
