@@ -5,31 +5,34 @@ use mathlib.Core.List.{List}
 use Rattle.array.specs.declared.Registers.{Registers}
 use Rattle.array.specs.declared.Operation.{Operation}
 use Rattle.array.specs.declared.Refusal.{Refusal}
-use Rattle.array.specs.declared.Check.TheVariants as check
 use Rattle.array.specs.declared.Answer.{Answer}
-use Rattle.array.specs.declared.Answer.TheVariants as answer
+use Rattle.std.specs.Prelude.{Result, Ok, Err}
 use Rattle.array.specs.Operations.{Array, words_of, registers_after, count_of, operated}
 use Rattle.array.specs.Refusals.{call_check, answer_of, after}
 
 -- the answer, and the three buffers
-abbrev pub Told : Array → Registers → Operation → Answer → List ℕ → List ℕ → List ℕ → Type 0
+abbrev pub Told : Array → Registers → Operation → Result Answer Refusal → List ℕ → List ℕ → List ℕ → Type 0
 Told a r o t os xs ss = (t ≡ answer_of a r o) × ((os ≡ (after a r o).ones) × ((xs ≡ (after a r o).xs) × (ss ≡ (after a r o).selectors)))
 
+-- an answer of these registers and this count
+abbrev pub answered_by : Registers → ℕ → Result Answer Refusal
+answered_by q k = Ok (record { registers = q; count = k })
+
 module _ (a : Array) (r : Registers) (o : Operation) where
-  pub turned_down : (why : Refusal) → call_check a r ≡ check.Refused why → Told a r o (answer.Refused why) a.ones a.xs a.selectors
+  pub turned_down : (why : Refusal) → call_check a r ≡ Err why → Told a r o (Err why) a.ones a.xs a.selectors
   unfolding answer_of after
   turned_down why h = rw h (refl, (refl, (refl, refl)))
 
-  module _ (h : call_check a r ≡ check.Passed) where
-    pub answered : (q : Registers) (k : ℕ) → q ≡ registers_after a.width r o (words_of a) → k ≡ count_of a r o → answer.Done q k ≡ answer_of a r o
+  module _ (h : call_check a r ≡ Ok tt) where
+    pub answered : (q : Registers) (k : ℕ) → q ≡ registers_after a.width r o (words_of a) → k ≡ count_of a r o → answered_by q k ≡ answer_of a r o
     unfolding answer_of
-    answered q k eq ek = rw h (ap₂ answer.Done eq ek)
+    answered q k eq ek = rw h (ap₂ answered_by eq ek)
 
     pub left : operated a r o ≡ after a r o
     unfolding after
     left = rw h
 
     pub done : (q : Registers) (k : ℕ) (os xs ss : List ℕ) → q ≡ registers_after a.width r o (words_of a) → k ≡ count_of a r o
-        → os ≡ (operated a r o).ones → xs ≡ (operated a r o).xs → ss ≡ (operated a r o).selectors → Told a r o (answer.Done q k) os xs ss
+        → os ≡ (operated a r o).ones → xs ≡ (operated a r o).xs → ss ≡ (operated a r o).selectors → Told a r o (answered_by q k) os xs ss
     done q k os xs ss eq ek eo ex es =
         (answered q k eq ek, (eo ∙ ap (λ (b : Array). b.ones) left, (ex ∙ ap (λ (b : Array). b.xs) left, es ∙ ap (λ (b : Array). b.selectors) left)))

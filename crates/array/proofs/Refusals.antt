@@ -1,6 +1,6 @@
 -- Chains of checks, what a call that passes them shows, and what then holds of each word.
 use Prim.Native.Nat.{ℕ, suc, ◌+◌, ◌^◌, ◌≤◌, ◌<◌}
-use mathlib.Core.Path.{◌≡◌, refl, ap₂}
+use mathlib.Core.Path.{◌≡◌, refl, ap, ap₂}
 use mathlib.Core.Bool.{Bool, true, false, ◌&&◌, ◌||◌}
 use mathlib.Core.List.{List, [], ◌∷◌}
 use lib.ListN.{length}
@@ -9,64 +9,44 @@ use Rattle.laws.specs.Bits.{digit}
 use Rattle.laws.specs.Lists.{all}
 use Rattle.laws.proofs.Bits.{and_left, and_right}
 use Rattle.machine.specs.declared.WordSlice.{WordSlice}
-use Rattle.machine.specs.declared.Found.{Found}
-use Rattle.machine.specs.declared.Found.TheVariants.{At, Nothing}
+use Rattle.std.specs.Prelude.{Result, Ok, Err, Option, Some, None, IsErrAnd}
 use Rattle.machine.specs.Refusals.{bad_size, bad_width, too_wide}
 use Rattle.machine.proofs.Refusals as machine
 use Rattle.array.specs.declared.Registers.{Registers}
 use Rattle.array.specs.declared.Refusal.{Refusal}
-use Rattle.array.specs.declared.Refusal.TheVariants.{Size, Width, WordTooWide, NoCell, RegisterTooWide}
-use Rattle.array.specs.declared.Check.{Check}
-use Rattle.array.specs.declared.Check.TheVariants.{Passed, Refused}
+use Rattle.array.specs.declared.Refusal.TheVariants.{Size, Width, NoCell, RegisterTooWide}
 use Rattle.array.specs.Words.{Word, each, how_many, lowest_word}
 use Rattle.array.specs.Operations.{Array, words_of}
-use Rattle.array.specs.Refusals.{bad_sizes, word_too_wide, first_too_wide, all_cells, bad_cells, bad_registers, ◌else◌, refuse, refuse_word, call_check}
+use Rattle.array.specs.Refusals.{bad_sizes, word_too_wide, first_too_wide, all_cells, bad_cells, bad_registers, ◌else◌, Check, refuse, refuse_word, call_check}
 
--- ---- one link of a chain, in the code's terms: d is what the code answers, t its test
-
-pub refused : (r : Refusal) (t : Bool) (c : Check) → t ≡ true → Refused r ≡ (refuse r t else c)
-refused r t c h = rw h
-
-pub onward : (r : Refusal) (t : Bool) (c d : Check) → t ≡ false → d ≡ c → d ≡ (refuse r t else c)
-onward r t c d h e = rw h e
-
--- the link of 3
-pub word_refused : (k : WordSlice) (f : Found) (c : Check) → f ≡ At k → Refused (WordTooWide k) ≡ (refuse_word f else c)
-word_refused k f c h = rw h
-
-pub no_word_refused : (f : Found) (c d : Check) → f ≡ Nothing → d ≡ c → d ≡ (refuse_word f else c)
-no_word_refused f c d h e = rw h e
-
--- the last link
-pub last : (r : Refusal) (t : Bool) → t ≡ true → Refused r ≡ refuse r t
-last r t h = rw h
-
-pub none : (r : Refusal) (t : Bool) → t ≡ false → Passed ≡ refuse r t
-none r t h = rw h
+-- what `?` hands on is the very refusal
+pub handed : {A : Type 0} (d : Result A Refusal) (e : Refusal) → IsErrAnd d (λ y. y ≡ e) → d ≡ Err e
+handed (Ok x) e h = absurd h
+handed (Err y) e h = ap Err h
 
 -- ---- what a check that is passed shows
 
-pub else_passed : (c d : Check) → (c else d) ≡ Passed → (c ≡ Passed) × (d ≡ Passed)
-else_passed Passed d h = (refl, h)
-else_passed (Refused r) d h = (cc, cc)
+pub else_passed : (c d : Check) → (c else d) ≡ Ok tt → (c ≡ Ok tt) × (d ≡ Ok tt)
+else_passed (Ok tt) d h = (refl, h)
+else_passed (Err r) d h = (cc, cc)
 
-pub not_refused : (r : Refusal) (t : Bool) → refuse r t ≡ Passed → t ≡ false
+pub not_refused : (r : Refusal) (t : Bool) → refuse r t ≡ Ok tt → t ≡ false
 not_refused r true h = cc
 not_refused r false h = refl
 
-no_word : (f : Found) → refuse_word f ≡ Passed → f ≡ Nothing
-no_word (At k) h = cc
-no_word Nothing h = refl
+no_word : (f : Option WordSlice) → refuse_word f ≡ Ok tt → f ≡ None
+no_word (Some k) h = cc
+no_word None h = refl
 
 -- an array and registers that pass 1, 2, 3, 12 and 4
 pub record Sound (a : Array) (r : Registers) : Type 0 where
   pub size : bad_sizes (length a.ones) (length a.xs) (length a.selectors) ≡ false
   pub width : bad_width a.width ≡ false
-  pub words : first_too_wide a.width (words_of a) ≡ Nothing
+  pub words : first_too_wide a.width (words_of a) ≡ None
   pub cells : bad_cells a.width (words_of a) ≡ false
   pub registers : bad_registers a.width r ≡ false
 
-pub sound : (a : Array) (r : Registers) → call_check a r ≡ Passed → Sound a r
+pub sound : (a : Array) (r : Registers) → call_check a r ≡ Ok tt → Sound a r
 unfolding call_check
 sound a r h =
     let s = else_passed (refuse Size (bad_sizes (length a.ones) (length a.xs) (length a.selectors))) _ h in
@@ -138,13 +118,13 @@ pub data Every (P : Word → Type 0) : List Word → Type 0 where
   more : {w : Word} {ws : List Word} → P w → Every P ws → Every P (w ∷ ws)
 
 -- where none passes a test, the first doesn't and none of the rest
-no_lowest : (test : Word → Bool) (k : ℕ) (w : Word) (ws : List Word) (b : Bool) → test w ≡ b → lowest_word test k (w ∷ ws) ≡ Nothing
-    → (b ≡ false) × (lowest_word test (suc k) ws ≡ Nothing)
+no_lowest : (test : Word → Bool) (k : ℕ) (w : Word) (ws : List Word) (b : Bool) → test w ≡ b → lowest_word test k (w ∷ ws) ≡ None
+    → (b ≡ false) × (lowest_word test (suc k) ws ≡ None)
 unfolding lowest_word
 no_lowest test k w ws true e h = (cc (rw e at h), cc (rw e at h))
 no_lowest test k w ws false e h = (refl, rw e at h)
 
-pub every_narrow : (n k : ℕ) (ws : List Word) → lowest_word (word_too_wide n) k ws ≡ Nothing → Every (Narrow n) ws
+pub every_narrow : (n k : ℕ) (ws : List Word) → lowest_word (word_too_wide n) k ws ≡ None → Every (Narrow n) ws
 every_narrow n k [] h = end
 every_narrow n k (w ∷ ws) h =
     let t = no_lowest (word_too_wide n) k w ws _ refl h in
@@ -160,7 +140,7 @@ with_cells {n} (more {w} {ws} p ps) h =
     more (record { ones = p.0; xs = p.1; cells = and_left (all_cells n w) (all (all_cells n) ws) h })
     (with_cells ps (and_right (all_cells n w) (all (all_cells n) ws) h))
 
-pub every_fit : (n k : ℕ) (ws : List Word) → lowest_word (word_too_wide n) k ws ≡ Nothing → all (all_cells n) ws ≡ true → Every (Fit n) ws
+pub every_fit : (n k : ℕ) (ws : List Word) → lowest_word (word_too_wide n) k ws ≡ None → all (all_cells n) ws ≡ true → Every (Fit n) ws
 every_fit n k ws h g = with_cells (every_narrow n k ws h) g
 
 pub fits : {a : Array} {r : Registers} → Sound a r → Every (Fit a.width) (words_of a)
@@ -185,10 +165,10 @@ unfolding all
 all_every f g end h = refl
 all_every f g (more p ps) h = ap₂ (λ (a b : Bool). a && b) (h _ p) (all_every f g ps h)
 
-pub each_like : (n : ℕ) (f g : Word → ℕ) (ws : List Word) → lowest_word (word_too_wide n) 0 ws ≡ Nothing → all (all_cells n) ws ≡ true
+pub each_like : (n : ℕ) (f g : Word → ℕ) (ws : List Word) → lowest_word (word_too_wide n) 0 ws ≡ None → all (all_cells n) ws ≡ true
     → ((w : Word) → w.ones < 2 ^ n → w.xs < 2 ^ n → all_cells n w ≡ true → f w ≡ g w) → each f ws ≡ each g ws
 each_like n f g ws wide cell h = each_every f g (every_fit n 0 ws wide cell) (λ w p. h w p.ones p.xs p.cells)
 
-pub how_many_like : (n : ℕ) (f g : Word → Bool) (ws : List Word) → lowest_word (word_too_wide n) 0 ws ≡ Nothing → all (all_cells n) ws ≡ true
+pub how_many_like : (n : ℕ) (f g : Word → Bool) (ws : List Word) → lowest_word (word_too_wide n) 0 ws ≡ None → all (all_cells n) ws ≡ true
     → ((w : Word) → w.ones < 2 ^ n → w.xs < 2 ^ n → all_cells n w ≡ true → f w ≡ g w) → how_many f ws ≡ how_many g ws
 how_many_like n f g ws wide cell h = how_many_every f g (every_fit n 0 ws wide cell) (λ w p. h w p.ones p.xs p.cells)

@@ -15,7 +15,7 @@ use Rattle.laws.specs.Bits.{bit}
 use Rattle.laws.specs.Lists.{all}
 use Rattle.laws.proofs.Digits.{Bit, off, on}
 use Rattle.laws.proofs.Bits.{digit_at, every_like, every_eqb, and_bit, bit_none}
-use Rattle.machine.specs.declared.Found.TheVariants.{At, Nothing}
+use Rattle.std.specs.Prelude.{Some, None}
 use Rattle.array.specs.Words.{Word, lowest_word}
 use Rattle.array.specs.Refusals.{word_too_wide, all_cells}
 use Rattle.array.proofs.Refusals.{all_every, every_narrow}
@@ -29,7 +29,7 @@ apart w = eqb (bit_and w.ones w.xs) 0
 
 module _ (test : Word → Bool) (ones xs ss : List ℕ) (k : ℕ) where
   module _ (h : k < length ones) (hx : length xs ≡ length ones) (hs : length ss ≡ length ones) where
-    pub lowest_here : test (word_at ones xs ss k) ≡ true → lowest_word test k (words_from ones xs ss k) ≡ At (record { 0 = k })
+    pub lowest_here : test (word_at ones xs ss k) ≡ true → lowest_word test k (words_from ones xs ss k) ≡ Some (record { 0 = k })
     unfolding lowest_word
     lowest_here e = rw (words_cons ones xs ss k h (omega arith) (omega arith), e)
 
@@ -37,7 +37,7 @@ module _ (test : Word → Bool) (ones xs ss : List ℕ) (k : ℕ) where
     unfolding lowest_word
     lowest_later e = rw (add-one k, words_cons ones xs ss k h (omega arith) (omega arith), e)
 
-  pub lowest_end : length ones ≤ k → lowest_word test k (words_from ones xs ss k) ≡ Nothing
+  pub lowest_end : length ones ≤ k → lowest_word test k (words_from ones xs ss k) ≡ None
   unfolding lowest_word
   lowest_end h = rw (words_end ones xs ss k h)
 
@@ -84,5 +84,5 @@ apart_is n w h =
     ∙ every_eqb n (bit_and w.ones w.xs) 0
     ∙ ap₂ eqb (mod-eq_of_lt a) (mod-eq_of_lt (pow_pos n)))
 
-pub all_apart : (n : ℕ) (ws : List Word) → lowest_word (word_too_wide n) 0 ws ≡ Nothing → all apart ws ≡ all (all_cells n) ws
+pub all_apart : (n : ℕ) (ws : List Word) → lowest_word (word_too_wide n) 0 ws ≡ None → all apart ws ≡ all (all_cells n) ws
 all_apart n ws h = all_every apart (all_cells n) (every_narrow n 0 ws h) (λ w p. apart_is n w p.0)

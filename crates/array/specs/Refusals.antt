@@ -1,20 +1,16 @@
 -- Document 02, request a: "Refusals: 1 to 4 as before, 12 for a cell coded as neither 0, 1 nor X, after 3"; what an operation answers and leaves.
 -- The conditions are quoted from document 01's table, which "as before" means; what they are held to here is (house), each with its decision in
 -- docs/DECISIONS.md.
-use Rattle.std.specs.Prelude.{ℕ, Bool, true, false, not, ◌||◌, List, length}
+use Rattle.std.specs.Prelude.{ℕ, Bool, true, false, not, ◌||◌, List, length, Option, Some, None, Result, Ok, Err}
 use Rattle.laws.specs.Bits.{bit, every}
 use Rattle.laws.specs.Lists.{all}
-use Rattle.machine.specs.declared.Found.{Found}
-use Rattle.machine.specs.declared.Found.TheVariants.{At, Nothing}
+use Rattle.machine.specs.declared.WordSlice.{WordSlice}
 use Rattle.machine.specs.Refusals.{bad_size, bad_width, too_wide}
 use Rattle.array.specs.declared.Registers.{Registers}
 use Rattle.array.specs.declared.Operation.{Operation}
 use Rattle.array.specs.declared.Refusal.{Refusal}
 use Rattle.array.specs.declared.Refusal.TheVariants.{Size, Width, WordTooWide, NoCell, RegisterTooWide}
-use Rattle.array.specs.declared.Check.{Check}
-use Rattle.array.specs.declared.Check.TheVariants as found
 use Rattle.array.specs.declared.Answer.{Answer}
-use Rattle.array.specs.declared.Answer.TheVariants as answer
 use Rattle.array.specs.Cells.{is_cell}
 use Rattle.array.specs.Words.{Word, lowest_word}
 use Rattle.array.specs.Operations.{Array, words_of, registers_after, count_of, operated}
@@ -31,7 +27,7 @@ bad_sizes n xs selectors = bad_size n xs || bad_size n selectors
 abbrev pub word_too_wide : ℕ → Word → Bool
 word_too_wide n w = too_wide n w.ones || too_wide n w.xs
 
-unfoldable pub first_too_wide : ℕ → List Word → Found
+unfoldable pub first_too_wide : ℕ → List Word → Option WordSlice
 first_too_wide n ws = lowest_word (word_too_wide n) 0 ws
 
 -- 12: "a cell coded as neither 0, 1 nor X", in any word (house, 'Which cells does 12 judge?')
@@ -47,18 +43,22 @@ bad_registers n r = too_wide n r.r1 || too_wide n r.r2 || too_wide n r.m
 
 -- ---- in this order, the first that holds
 
+-- what checking a call finds: nothing wrong, or the refusal
+abbrev pub Check : Type 0
+Check = Result (Unit {0}) Refusal
+
 infixr 20 ◌else◌
 abbrev pub ◌else◌ : Check → Check → Check
-found.Passed else c = c
-found.Refused r else c = found.Refused r
+(Ok tt) else c = c
+Err r else c = Err r
 
 abbrev pub refuse : Refusal → Bool → Check
-refuse r true = found.Refused r
-refuse r false = found.Passed
+refuse r true = Err r
+refuse r false = Ok tt
 
-abbrev pub refuse_word : Found → Check
-refuse_word (At k) = found.Refused (WordTooWide k)
-refuse_word Nothing = found.Passed
+abbrev pub refuse_word : Option WordSlice → Check
+refuse_word (Some k) = Err (WordTooWide k)
+refuse_word None = Ok tt
 
 -- 12 and then 4 (house, '12 or 3, 12 or 4?')
 abbrev pub rest_check : ℕ → Registers → List Word → Check
@@ -73,17 +73,17 @@ call_check a r =
 
 -- ---- what an operation answers, and what stands in the array afterwards
 
-abbrev pub answer_by : Check → Answer → Answer
-answer_by found.Passed done = done
-answer_by (found.Refused r) done = answer.Refused r
+abbrev pub answer_by : Check → Answer → Result Answer Refusal
+answer_by (Ok tt) done = Ok done
+answer_by (Err r) done = Err r
 
-unfoldable pub answer_of : Array → Registers → Operation → Answer
-answer_of a r o = answer_by (call_check a r) (answer.Done (registers_after a.width r o (words_of a)) (count_of a r o))
+unfoldable pub answer_of : Array → Registers → Operation → Result Answer Refusal
+answer_of a r o = answer_by (call_check a r) (record { registers = registers_after a.width r o (words_of a); count = count_of a r o })
 
 -- "Nothing lent changes"
 abbrev pub change_by : Check → Array → Array → Array
-change_by found.Passed new old = new
-change_by (found.Refused r) new old = old
+change_by (Ok tt) new old = new
+change_by (Err r) new old = old
 
 unfoldable pub after : Array → Registers → Operation → Array
 after a r o = change_by (call_check a r) (operated a r o) a
@@ -113,7 +113,7 @@ pub record Told : Type 0 where
   pub count : ℕ
 
 -- R1, R2 and M are fields of the answer, so they are 0 there on a refusal (house, 'What are the registers of a refusal?')
-abbrev pub told : Answer → Told
-told (answer.Done r c) = record { refusal = 0; also = 0; registers = r; count = c }
-told (answer.Refused why) =
+abbrev pub told : Result Answer Refusal → Told
+told (Ok a) = record { refusal = 0; also = 0; registers = a.registers; count = a.count }
+told (Err why) =
     record { refusal = number_of why; also = also_answers why; registers = record { r1 = 0; r2 = 0; m = 0 }; count = 0 }

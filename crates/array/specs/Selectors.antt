@@ -1,6 +1,6 @@
 -- The word control unit of source document 001, with "its own two selector sets, P and S" (02): a byte for each word, bit 0 P and bit 1 S, its other
 -- bits neither read nor changed (house, docs/DECISIONS.md 'How are the selectors lent?').
-use Rattle.std.specs.Prelude.{ℕ, Bool, true, false, not, ◌&&◌, ◌||◌, eqb}
+use Rattle.std.specs.Prelude.{ℕ, Bool, false, not, ◌&&◌, ◌||◌, eqb}
 use Rattle.laws.specs.Bits.{bit, number, pick, digit}
 use Rattle.array.specs.declared.Latches.{Latches}
 use Rattle.array.specs.declared.Latches.TheVariants as latches

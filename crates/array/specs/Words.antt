@@ -1,9 +1,8 @@
 -- A word of three-state cells, and the words that three lent buffers hold side by side: two planes and a byte a word (house, docs/DECISIONS.md
 -- 'How are a word's cells lent?' and 'How are the selectors lent?').
-use Rattle.std.specs.Prelude.{ℕ, zero, suc, ◌+◌, Bool, List, [], ◌∷◌}
+use Rattle.std.specs.Prelude.{ℕ, suc, ◌+◌, Bool, List, [], ◌∷◌, Option, Some, None}
 use Rattle.laws.specs.Bits.{bit, pick, digit}
-use Rattle.machine.specs.declared.Found.{Found}
-use Rattle.machine.specs.declared.Found.TheVariants.{At, Nothing}
+use Rattle.machine.specs.declared.WordSlice.{WordSlice}
 use Rattle.array.specs.declared.Cell.{Cell}
 use Rattle.array.specs.Cells.{cell_of}
 
@@ -38,6 +37,6 @@ how_many test [] = 0
 how_many test (w ∷ ws) = digit (test w) + how_many test ws
 
 -- the lowest that passes it, counted from k, or none
-unfoldable pub lowest_word : (Word → Bool) → ℕ → List Word → Found
-lowest_word test k [] = Nothing
-lowest_word test k (w ∷ ws) = pick (test w) (At (record { 0 = k })) (lowest_word test (suc k) ws)
+unfoldable pub lowest_word : (Word → Bool) → ℕ → List Word → Option WordSlice
+lowest_word test k [] = None
+lowest_word test k (w ∷ ws) = pick (test w) (Some (record { 0 = k })) (lowest_word test (suc k) ws)

@@ -3,7 +3,7 @@
 // every operation, and the checks of a call. The operations stand in `array_cells` and `array_wide`.
 #![tactic(auto)]
 
-ghost use Rattle.std.specs.Prelude.{◌≡◌, false, ◌≤◌, length};
+ghost use Rattle.std.specs.Prelude.{◌≡◌, false, ◌≤◌, None, length};
 ghost use Rattle.machine.specs.Refusals.{bad_width};
 ghost use Rattle.array.specs.Selectors as selectors;
 ghost use Rattle.array.specs.Words.{words};
@@ -11,10 +11,10 @@ ghost use Rattle.array.specs.Operations.{array};
 ghost use Rattle.array.specs.Registers as registering;
 ghost use Rattle.array.specs.Refusals as refusals;
 
-use machine::{Found, WordSlice, bad_width, too_wide};
+use machine::{WordSlice, bad_width, too_wide};
 
 // "three state (0, 1, X="don't care") associative storage cells"
-#[derive(Clone, Copy)]
+#[derive(Clone, Copy, PartialEq, Eq)]
 pub enum Cell {
     Zero,
     One,
@@ -22,7 +22,7 @@ pub enum Cell {
 }
 
 // "two data registers (R1, R2) .. and one mask register (M)"
-#[derive(Clone, Copy)]
+#[derive(Clone, Copy, PartialEq, Eq)]
 pub struct Registers {
     pub r1: u64,
     pub r2: u64,
@@ -32,14 +32,14 @@ pub struct Registers {
 // ---- the choices that an operation makes
 
 // "the specified data register (R1, R2)"
-#[derive(Clone, Copy)]
+#[derive(Clone, Copy, PartialEq, Eq)]
 pub enum Source {
     R1,
     R2,
 }
 
 // "the specified mask (M, all 1's, all 0's)"
-#[derive(Clone, Copy)]
+#[derive(Clone, Copy, PartialEq, Eq)]
 pub enum Mask {
     M,
     Ones,
@@ -47,14 +47,14 @@ pub enum Mask {
 }
 
 // "one of two sets of selector latches (P and S)"
-#[derive(Clone, Copy)]
+#[derive(Clone, Copy, PartialEq, Eq)]
 pub enum Latches {
     P,
     S,
 }
 
 // "a specified set of selector latches (P, S, all 0's) .."
-#[derive(Clone, Copy)]
+#[derive(Clone, Copy, PartialEq, Eq)]
 pub enum Selector {
     P,
     S,
@@ -62,21 +62,21 @@ pub enum Selector {
 }
 
 // ".. in true or complement form"
-#[derive(Clone, Copy)]
+#[derive(Clone, Copy, PartialEq, Eq)]
 pub enum Form {
     True,
     Complement,
 }
 
 // "with the words that agree, or with those that don't"
-#[derive(Clone, Copy)]
+#[derive(Clone, Copy, PartialEq, Eq)]
 pub enum Wanted {
     Agree,
     Disagree,
 }
 
 // "may be ANDed or ORed with, or replace the contents"
-#[derive(Clone, Copy)]
+#[derive(Clone, Copy, PartialEq, Eq)]
 pub enum Combine {
     Replace,
     And,
@@ -84,7 +84,7 @@ pub enum Combine {
 }
 
 // "a specified register (R1, R2, M)"
-#[derive(Clone, Copy)]
+#[derive(Clone, Copy, PartialEq, Eq)]
 pub enum Sink {
     R1,
     R2,
@@ -92,14 +92,14 @@ pub enum Sink {
 }
 
 // "Two write commands are provided: Write Normal, and Write Special."
-#[derive(Clone, Copy)]
+#[derive(Clone, Copy, PartialEq, Eq)]
 pub enum Kind {
     Normal,
     Special,
 }
 
 // "Three basic operations may be performed on the array: search, read, and write."
-#[derive(Clone, Copy)]
+#[derive(Clone, Copy, PartialEq, Eq)]
 pub enum Operation {
     Search {
         source: Source,
@@ -133,18 +133,11 @@ pub enum Refusal {
     RegisterTooWide,
 }
 
-// What checking a call finds.
+// What an operation that is not turned down answers: the registers after it and the count.
 #[derive(Clone, Copy)]
-pub enum Check {
-    Passed,
-    Refused(Refusal),
-}
-
-// What an operation answers: the registers after it and the count, or the refusal.
-#[derive(Clone, Copy)]
-pub enum Answer {
-    Done { registers: Registers, count: usize },
-    Refused(Refusal),
+pub struct Answer {
+    pub registers: Registers,
+    pub count: usize,
 }
 
 // Document 02's number of each.
@@ -199,18 +192,15 @@ pub fn load(registers: Registers, sink: Sink, value: u64) -> Registers
     match sink {
         Sink::R1 => Registers {
             r1: value,
-            r2: registers.r2,
-            m: registers.m,
+            ..registers
         },
         Sink::R2 => Registers {
-            r1: registers.r1,
             r2: value,
-            m: registers.m,
+            ..registers
         },
         Sink::M => Registers {
-            r1: registers.r1,
-            r2: registers.r2,
             m: value,
+            ..registers
         },
     }
 }
@@ -294,33 +284,38 @@ fn bad_size(ones: usize, xs: usize, selectors: usize) -> bool
 }
 
 // 3
-fn first_too_wide(width: u32, ones: &[u64], xs: &[u64], selectors: &[u8]) -> Found
+fn first_too_wide(width: u32, ones: &[u64], xs: &[u64], selectors: &[u8]) -> Option<WordSlice>
     requires { (length xs.now ≡ length ones.now) × (length selectors.now ≡ length ones.now) }
     ensures { result ≡ refusals.first_too_wide width (words ones.now xs.now selectors.now) }
 {
-    let mut k: usize = 0;
-    while k < ones.len() {
+    for k in 0..ones.len() {
         if too_wide(width, ones[k]) | too_wide(width, xs[k]) {
-            return Found::At(WordSlice(k));
+            return Some(WordSlice(k));
         }
-        k += 1;
     }
-    Found::Nothing
+    None
+}
+
+fn refuse_word(found: Option<WordSlice>) -> Result<(), Refusal>
+    ensures { result ≡ refusals.refuse_word found }
+{
+    match found {
+        Some(k) => Err(Refusal::WordTooWide(k)),
+        None => Ok(()),
+    }
 }
 
 // 12: where no word is too wide, a cell has ones in both planes exactly if the planes have a one in common.
 fn bad_cells(width: u32, ones: &[u64], xs: &[u64], selectors: &[u8]) -> bool
     requires xs_len { (length xs.now ≡ length ones.now) × (length selectors.now ≡ length ones.now) }
-    requires selectors_value { refusals.first_too_wide width (words ones.now xs.now selectors.now) ≡ Found.Nothing }
+    requires selectors_value { refusals.first_too_wide width (words ones.now xs.now selectors.now) ≡ None }
     ensures { result ≡ refusals.bad_cells width (words ones.now xs.now selectors.now) }
 {
     let mut common: u64 = 0;
-    let mut k: usize = 0;
-    while k < ones.len() {
-        common = common | (ones[k] & xs[k]);
-        k += 1;
+    for k in 0..ones.len() {
+        common |= ones[k] & xs[k];
     }
-    !(common == 0)
+    common != 0
 }
 
 // 4
@@ -330,40 +325,45 @@ fn bad_registers(width: u32, registers: Registers) -> bool
     too_wide(width, registers.r1) | too_wide(width, registers.r2) | too_wide(width, registers.m)
 }
 
+fn refuse(why: Refusal, when: bool) -> Result<(), Refusal>
+    ensures { result ≡ refusals.refuse why when }
+{
+    if when { Err(why) } else { Ok(()) }
+}
+
 // 12 and 4, where 1 to 3 are passed.
-fn check_rest(width: u32, registers: Registers, ones: &[u64], xs: &[u64], selectors: &[u8]) -> Check
+#[tactic(auto, using(crate::proofs::Refusals::handed))]
+fn check_rest(
+    width: u32,
+    registers: Registers,
+    ones: &[u64],
+    xs: &[u64],
+    selectors: &[u8],
+) -> Result<(), Refusal>
     requires xs_len { (length xs.now ≡ length ones.now) × (length selectors.now ≡ length ones.now) }
-    requires selectors_value { refusals.first_too_wide width (words ones.now xs.now selectors.now) ≡ Found.Nothing }
+    requires selectors_value { refusals.first_too_wide width (words ones.now xs.now selectors.now) ≡ None }
     ensures { result ≡ refusals.rest_check width registers (words ones.now xs.now selectors.now) }
 {
-    if bad_cells(width, ones, xs, selectors) {
-        return Check::Refused(Refusal::NoCell);
-    }
-    if bad_registers(width, registers) {
-        return Check::Refused(Refusal::RegisterTooWide);
-    }
-    Check::Passed
+    refuse(Refusal::NoCell, bad_cells(width, ones, xs, selectors))?;
+    refuse(Refusal::RegisterTooWide, bad_registers(width, registers))
 }
 
 // "1 to 4 as before, 12 for a cell coded as neither 0, 1 nor X, after 3"
+#[tactic(auto, using(crate::proofs::Refusals::handed), unfolding(crate::specs::Refusals::call_check))]
 pub fn check_call(
     ones: &[u64],
     xs: &[u64],
     selectors: &[u8],
     width: u32,
     registers: Registers,
-) -> Check
+) -> Result<(), Refusal>
     ensures { result ≡ refusals.call_check (array width ones.now xs.now selectors.now) registers }
 {
-    if bad_size(ones.len(), xs.len(), selectors.len()) {
-        return Check::Refused(Refusal::Size);
-    }
-    if bad_width(width) {
-        return Check::Refused(Refusal::Width);
-    }
-    let found = first_too_wide(width, ones, xs, selectors);
-    if let Found::At(k) = found {
-        return Check::Refused(Refusal::WordTooWide(k));
-    }
+    refuse(
+        Refusal::Size,
+        bad_size(ones.len(), xs.len(), selectors.len()),
+    )?;
+    refuse(Refusal::Width, bad_width(width))?;
+    refuse_word(first_too_wide(width, ones, xs, selectors))?;
     check_rest(width, registers, ones, xs, selectors)
 }

@@ -1,5 +1,4 @@
 use Rattle.array.specs.Refusals.{bad_registers}
-use borrow.Author.Rules.{rules}
 use Rattle.array.proofs.bad_registers.Goals as goal
 
 pub returns : goal.returns

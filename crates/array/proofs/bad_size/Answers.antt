@@ -1,5 +1,4 @@
 use Rattle.array.specs.Refusals.{bad_sizes}
-use borrow.Author.Rules.{rules}
 use Rattle.array.proofs.bad_size.Goals as goal
 
 pub returns : goal.returns

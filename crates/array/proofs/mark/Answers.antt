@@ -1,7 +1,6 @@
 use mathlib.Core.Bool.{Bool}
 use mathlib.Core.Path.{ap, ap₂, ◌∙◌}
 use Rattle.array.specs.Selectors.{put, combined, marked}
-use borrow.Author.Rules.{rules}
 use Rattle.array.proofs.mark.Goals as goal
 
 pub returns : goal.returns

@@ -1,5 +1,4 @@
 use Rattle.machine.proofs.Refusals.{width_pos, width_le}
-use borrow.Author.Rules.{rules}
 use Rattle.array.proofs.mask_of.Goals as goal
 
 pub low_bits-requires : goal.low_bits-requires
