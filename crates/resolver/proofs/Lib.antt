@@ -1,5 +1,4 @@
 -- laws of resolution
 pub mod Lowest
 pub mod Merging
-pub mod Answers
 pub mod Sizes

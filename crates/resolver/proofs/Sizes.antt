@@ -6,7 +6,7 @@ use native.Mathlib.Omega.{arith}
 use lib.Dec.{ltb, eqb}
 use lib.ListN.{length}
 use borrow.Author.Tests.{ltb-false}
-use Rattle.machine.specs.declared.Check.TheVariants.{Passed}
+use Rattle.std.specs.Prelude.{Ok}
 use Rattle.machine.specs.Machine.{Machine}
 use Rattle.machine.specs.Refusals.{bad_size, machine_check}
 use Rattle.machine.proofs.Refusals.{or_left, or_right, size_same, sound}
@@ -19,7 +19,7 @@ few_words : (n r : ℕ) → bad_size n r ≡ false → n ≤ 1024
 unfolding bad_size
 few_words n r h = ltb-false 1024 n (or_left (ltb 1024 n) (not (eqb r n)) (or_right (eqb n 0) (ltb 1024 n || not (eqb r n)) h))
 
-pub sized : (m : Machine) → machine_check m ≡ Passed → Sized m
+pub sized : (m : Machine) → machine_check m ≡ Ok tt → Sized m
 sized m h =
     let s = sound m h in
     let same = size_same (length m.words) (length m.responses) s.size in

@@ -1,20 +1,14 @@
 -- Document 01, 'One pulse', Resolution, and 'Numbers given when a call is turned down': what resolving answers.
-use Rattle.std.specs.Prelude.{length, get_or, List, Bool, true, false, ◌≡◌, ℕ, ◌<◌}
-use Rattle.machine.specs.declared.Found.{Found}
-use Rattle.machine.specs.declared.Found.TheVariants as found
+use Rattle.std.specs.Prelude.{length, get_or, List, Bool, true, false, ◌≡◌, ℕ, ◌<◌, Option, Some, None, Result, Ok, Err}
+use Rattle.machine.specs.declared.WordSlice.{WordSlice}
+use Rattle.machine.specs.declared.Refusal.{Refusal}
 use Rattle.machine.specs.Machine.{Machine}
 use Rattle.machine.specs.Resolution.{resolved}
 use Rattle.machine.specs.Refusals.{machine_check, answer_by, number_of, also_answers}
-use Rattle.resolver.specs.declared.Resolved.{Resolved}
-use Rattle.resolver.specs.declared.Resolved.TheVariants.{At, Nothing, Refused}
-
-abbrev pub as_resolved : Found → Resolved
-as_resolved (found.At k) = At k
-as_resolved found.Nothing = Nothing
 
 -- "The lowest-numbered selected word, or none exactly if no word is selected."; "resolution for 1 to 3"
-unfoldable pub resolution : ℕ → ℕ → Machine → Resolved
-resolution key care m = answer_by (machine_check m) Refused (as_resolved (resolved key care m))
+unfoldable pub resolution : ℕ → ℕ → Machine → Result (Option WordSlice) Refusal
+resolution key care m = answer_by (machine_check m) (resolved key care m)
 
 -- ---- each answer's number and values; "other answer fields are 0"
 
@@ -25,10 +19,10 @@ pub record Told : Type 0 where
   pub found : ℕ
   pub word : ℕ
 
-abbrev pub told : Resolved → Told
-told (At k) = record { refusal = 0; also = 0; found = 1; word = k.0 }
-told Nothing = record { refusal = 0; also = 0; found = 0; word = 0 }
-told (Refused r) = record { refusal = number_of r; also = also_answers r; found = 0; word = 0 }
+abbrev pub told : Result (Option WordSlice) Refusal → Told
+told (Ok (Some k)) = record { refusal = 0; also = 0; found = 1; word = k.0 }
+told (Ok None) = record { refusal = 0; also = 0; found = 0; word = 0 }
+told (Err r) = record { refusal = number_of r; also = also_answers r; found = 0; word = 0 }
 
 -- ---- words of the theorems
 

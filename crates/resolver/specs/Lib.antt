@@ -1,3 +1,2 @@
 -- what resolving answers, and what the parts of scan and tree promise
 pub mod Answers
-pub mod Merging

@@ -1,22 +1,25 @@
 -- The answers of the halves merge to the lowest of all.
-use Rattle.std.proofs.Common.{◌/◌, ◌≤◌, length, ap, sym, ◌∙◌, arith}
-use Rattle.resolver.specs.Merging.{alone}
-use Rattle.resolver.proofs.Merging.{no_word, one_word, two_halves}
+use mathlib.Core.Path.{ap, ap₂, sym, ◌∙◌}
+use borrow.Author.Rules.{rules}
+use Rattle.std.specs.Option.{option_or}
+use Rattle.std.specs.Bool.{then_some}
+use Rattle.machine.specs.Machine.{selected}
+use Rattle.machine.specs.Resolution.{lowest}
+use Rattle.resolver.proofs.Merging.{no_word, one_word, joint}
 use Rattle.resolver.proofs.+tree.Goals as goal
 
-pub returns-then-n-eq0 : goal.returns-then-n-eq0
-returns-then-n-eq0 t c = no_word _ _ _ c.if-n-eq0.true
+pub returns-in-empty : goal.returns-in-empty
+returns-in-empty t c = no_word _ _ _ (search rules)
 
-pub returns-then-n-eq1 : goal.returns-then-n-eq1
-returns-then-n-eq1 t c =
+pub returns-in-len1 : goal.returns-in-len1
+returns-in-len1 t c =
     let a = c.args in
-    one_word _ a.base.0 a.responses.now c.one_word.result c.if-n-eq1.true
-    (c.one_word.ensures ∙ ap (λ b. alone b a.base) c.is_selected.ensures)
+    c.then_some.ensures ∙ ap (λ b. then_some b a.base) c.is_selected.ensures
+    ∙ one_word (selected a.key a.care) a.base.0 a.responses.now (search rules) (search rules)
 
-pub returns : goal.returns
-returns t c =
+pub returns-in_default : goal.returns-in_default
+returns-in_default t c =
     let a = c.args in
-    let r = a.responses.now in
-    let h : length r / 2 ≤ length r = omega arith in
-    two_halves _ a.base.0 r (length r / 2) c.merge.result c.tree-lower.result c.tree-upper.result h
-    c.tree-lower.ensures c.tree-upper.ensures c.merge.ensures
+    let test = selected a.key a.care in
+    c.or.ensures ∙ ap₂ option_or c.tree.ensures c.tree-in_default.ensures
+    ∙ sym (joint test a.base.0 _ _) ∙ ap (lowest test a.base.0) (sym c.split_at.ensures.by_index.0)
