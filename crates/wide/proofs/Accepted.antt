@@ -12,14 +12,12 @@ use borrow.Author.Tests.{leb-false, not-false}
 use Rattle.laws.specs.Bits.{pick}
 use Rattle.machine.specs.declared.Panel.{Panel}
 use Rattle.machine.specs.declared.Lines.{Lines}
-use Rattle.machine.specs.declared.Found.TheVariants.{At, Nothing}
-use Rattle.machine.specs.declared.Refusal.{Refusal}
-use Rattle.machine.specs.declared.Check.{Check}
-use Rattle.machine.specs.declared.Check.TheVariants.{Passed, Refused}
+use Rattle.machine.specs.declared.WordSlice.{WordSlice}
+use Rattle.std.specs.Prelude.{Some, None, Ok}
 use Rattle.machine.specs.Machine.{Machine, machine}
 use Rattle.machine.specs.Resolution.{lowest}
 use Rattle.machine.specs.Refusals.{too_wide, bad_panel, bad_codes, bad_address, machine_check, pulse_check}
-use Rattle.machine.proofs.Refusals.{or_left, or_right, width_pos, width_le, size_same, else_refused, else_next, sound, clean}
+use Rattle.machine.proofs.Refusals.{or_left, or_right, width_pos, width_le, size_same, sound, clean}
 use Rattle.fields.specs.Fields.{fields}
 use Rattle.fields.specs.Tops.{tops_of}
 use Rattle.fields.specs.Codes.{clash, set_bits, unmixed_in}
@@ -27,21 +25,21 @@ use Rattle.fields.proofs.Shape.{same_fields}
 use Rattle.fields.proofs.Codes.{unmixed_word}
 use Rattle.fields.proofs.Mixing.{unmixed_is}
 use Rattle.masks.specs.Plan.{Fit}
-use Rattle.wide.specs.Accepted.{Accepted, rest_check}
+use Rattle.wide.specs.Accepted.{Accepted}
 
 -- ---- 3
 
-not_at : {A : Type 0} (k : ℕ) → At (record { 0 = k }) ≡ Nothing → A
+not_at : {A : Type 0} (k : WordSlice) → Some k ≡ None → A
 not_at k e = let z : ◌≡◌ {A = ℕ} 0 1 = cc in absurd (omega arith)
 
-words_fit : (n k : ℕ) (ws : List ℕ) → lowest (too_wide n) k ws ≡ Nothing → (j : ℕ) → get_or ws j 0 < 2 ^ n
+words_fit : (n k : ℕ) (ws : List ℕ) → lowest (too_wide n) k ws ≡ None → (j : ℕ) → get_or ws j 0 < 2 ^ n
 unfolding lowest
 words_fit n k [] e j = pow_pos n
 words_fit n k (w ∷ ws) e j = go (too_wide n w) refl e (words_fit n (suc k) ws) j
   where
-    go : (t : Bool) → too_wide n w ≡ t → pick t (At (record { 0 = k })) (lowest (too_wide n) (suc k) ws) ≡ Nothing
-        → (lowest (too_wide n) (suc k) ws ≡ Nothing → (j : ℕ) → get_or ws j 0 < 2 ^ n) → (j : ℕ) → get_or (w ∷ ws) j 0 < 2 ^ n
-    go true f g rest j = not_at k g
+    go : (t : Bool) → too_wide n w ≡ t → pick t (Some (record { 0 = k })) (lowest (too_wide n) (suc k) ws) ≡ None
+        → (lowest (too_wide n) (suc k) ws ≡ None → (j : ℕ) → get_or ws j 0 < 2 ^ n) → (j : ℕ) → get_or (w ∷ ws) j 0 < 2 ^ n
+    go true f g rest j = not_at _ g
     go false f g rest zero = leb-false (2 ^ n) w f
     go false f g rest (suc j) = rest g j
 
@@ -88,20 +86,10 @@ address_fits m p l h s = leb-false m p.address.0 (rw s at h)
 -- ---- all of them
 
 -- 2: what number 4 to 7 are judged by
-pub machine_width : (m : Machine) → machine_check m ≡ Passed → (0 < m.width) × (m.width ≤ 64)
+pub machine_width : (m : Machine) → machine_check m ≡ Ok tt → (0 < m.width) × (m.width ≤ 64)
 machine_width m h = let s = sound m h in (width_pos m.width s.width, width_le m.width s.width)
 
--- the first three, and the rest
-pub stopped : (m : Machine) (p : Panel) (l : Lines) (c : Check) (r : Refusal) → c ≡ machine_check m → c ≡ Refused r → Refused r ≡ pulse_check m p l
-unfolding pulse_check
-stopped m p l c r e g = else_refused r (machine_check m) _ (sym e ∙ g)
-
-pub went_on : (m : Machine) (p : Panel) (l : Lines) (c d : Check) → c ≡ machine_check m → c ≡ Passed → d ≡ rest_check (length m.words) m.width p l
-    → d ≡ pulse_check m p l
-unfolding pulse_check
-went_on m p l c d e g h = else_next (machine_check m) _ d (sym e ∙ g) h
-
-pub accepted : (n : ℕ) (p : Panel) (l : Lines) (ws rs : List ℕ) → pulse_check (machine n ws rs) p l ≡ Passed → Accepted n p l ws rs
+pub accepted : (n : ℕ) (p : Panel) (l : Lines) (ws rs : List ℕ) → pulse_check (machine n ws rs) p l ≡ Ok tt → Accepted n p l ws rs
 accepted n p l ws rs h =
     let c = clean (machine n ws rs) p l h in
     let s = c.sound in

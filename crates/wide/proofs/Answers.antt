@@ -1,7 +1,7 @@
 -- What a pulse answers and leaves, where nothing is turned down and where something is.
 -- Document 01, 'Numbers given when a call is turned down': "Nothing lent changes; other answer fields are 0."
 use Prim.Native.Nat.{ℕ, ◌<◌}
-use mathlib.Core.Path.{◌≡◌, refl, sym, ap, ap₂, ◌∙◌}
+use mathlib.Core.Path.{◌≡◌, refl}
 use mathlib.Core.Bool.{Bool, true, false, ◌||◌}
 use mathlib.Core.List.{List}
 use lib.ListN.{length, get_or}
@@ -9,12 +9,10 @@ use Rattle.laws.specs.Bits.{pick}
 use Rattle.machine.specs.declared.Panel.{Panel}
 use Rattle.machine.specs.declared.Lines.{Lines}
 use Rattle.machine.specs.declared.Refusal.{Refusal}
-use Rattle.machine.specs.declared.Check.{Check}
-use Rattle.machine.specs.declared.Check.TheVariants as check
-use Rattle.machine.specs.declared.Answer.TheVariants as answer
+use Rattle.std.specs.Prelude.{Ok, Err}
 use Rattle.machine.specs.Machine.{Machine}
 use Rattle.machine.specs.Pulse.{count_of, read_of, pulsed}
-use Rattle.machine.specs.Refusals.{pulse_check, answer_by, answer_of, change_by, after}
+use Rattle.machine.specs.Refusals.{pulse_check, answer_of, after}
 use Rattle.wide.specs.Accepted.{Accepted}
 
 -- where read is raised there is a word at the address
@@ -27,22 +25,14 @@ read_in_range n p l ws rs a h = a.address (raised l.read l.write l.add h)
     raised true false false h = refl
     raised false y z h = cc
 
-module _ (m : Machine) (p : Panel) (l : Lines) (c : Check) (e : c ≡ pulse_check m p l) where
-  pub done : (k x : ℕ) (ws rs : List ℕ) → c ≡ check.Passed → k ≡ count_of m p l → x ≡ pick l.read (get_or m.words p.address.0 0) 0
+module _ (m : Machine) (p : Panel) (l : Lines) where
+  pub done : (k x : ℕ) (ws rs : List ℕ) → pulse_check m p l ≡ Ok tt → k ≡ count_of m p l → x ≡ pick l.read (get_or m.words p.address.0 0) 0
       → ws ≡ (pulsed m p l).words → rs ≡ (pulsed m p l).responses
-      → (answer.Done k x ≡ answer_of m p l) × ((ws ≡ (after m p l).words) × (rs ≡ (after m p l).responses))
+      → (Ok (record { count = k; read = x }) ≡ answer_of m p l) × ((ws ≡ (after m p l).words) × (rs ≡ (after m p l).responses))
   unfolding answer_of after read_of
-  done k x ws rs g hk hx hw hr =
-      let f = sym (sym e ∙ g) in (
-        ap₂ answer.Done hk hx ∙ ap (λ (d : Check). answer_by d answer.Refused (answer.Done (count_of m p l) (read_of m p l))) f,
-        (hw ∙ ap (λ (d : Check). (change_by d (pulsed m p l) m).words) f, hr ∙ ap (λ (d : Check). (change_by d (pulsed m p l) m).responses) f),
-      )
+  done k x ws rs g hk hx hw hr = (rw (g, hk, hx), (rw g hw, rw g hr))
 
-  pub turned_down : (r : Refusal) → c ≡ check.Refused r
-      → (answer.Refused r ≡ answer_of m p l) × ((m.words ≡ (after m p l).words) × (m.responses ≡ (after m p l).responses))
+  pub turned_down : (r : Refusal) → pulse_check m p l ≡ Err r
+      → (Err r ≡ answer_of m p l) × ((m.words ≡ (after m p l).words) × (m.responses ≡ (after m p l).responses))
   unfolding answer_of after
-  turned_down r g =
-      let f = sym (sym e ∙ g) in (
-        ap (λ (d : Check). answer_by d answer.Refused (answer.Done (count_of m p l) (read_of m p l))) f,
-        (ap (λ (d : Check). (change_by d (pulsed m p l) m).words) f, ap (λ (d : Check). (change_by d (pulsed m p l) m).responses) f),
-      )
+  turned_down r g = (rw g, (rw g, rw g))

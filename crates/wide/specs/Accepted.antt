@@ -3,11 +3,10 @@
 use Rattle.std.specs.Prelude.{ℕ, ◌^◌, ◌<◌, ◌≡◌, true, ◌&&◌, ◌||◌, List, length, get_or}
 use Rattle.machine.specs.declared.Panel.{Panel}
 use Rattle.machine.specs.declared.Lines.{Lines}
-use Rattle.machine.specs.declared.Check.{Check}
 use Rattle.machine.specs.declared.Refusal.TheVariants.{PanelTooWide, TwoCodes}
 use Rattle.machine.specs.Machine.{selected}
 use Rattle.machine.specs.Pulse.{written, added, change}
-use Rattle.machine.specs.Refusals.{bad_panel, bad_codes, refuse, ◌else◌, command_check}
+use Rattle.machine.specs.Refusals.{bad_panel, bad_codes, Check, refuse, ◌else◌, command_check}
 use Rattle.fields.specs.Fields.{fields}
 use Rattle.fields.specs.Codes.{unmixed_in}
 use Rattle.masks.specs.Plan.{Fit}

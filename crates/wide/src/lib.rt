@@ -2,17 +2,16 @@
 // Document 01, 'One pulse'. Its contract is the plain machine's. Masks are worked out once per pulse, in constant time.
 #![tactic(auto)]
 
-ghost use Rattle.std.specs.Prelude.{◌≡◌, true, false, ◌-◌, ◌^◌, ◌≤◌, ◌<◌, length, get_or};
+ghost use Rattle.std.specs.Prelude.{◌≡◌, true, false, ◌-◌, ◌^◌, ◌≤◌, ◌<◌, length, get_or, Ok};
 ghost use Rattle.laws.specs.Bits.{pick};
 ghost use Rattle.laws.specs.Lists.{zip, count};
-ghost use Rattle.machine.specs.declared.Check.TheVariants as check;
 ghost use Rattle.machine.specs.Machine.{machine};
 ghost use Rattle.machine.specs.Pulse.{counts, word_after, response_after, count_of, pulsed};
 ghost use Rattle.machine.specs.Refusals.{bad_codes, pulse_check, answer_of, after};
 ghost use Rattle.masks.specs.Plan.{Fit};
 ghost use Rattle.wide.specs.Accepted.{Accepted, rest_check, multi_after};
 
-use machine::{Answer, Check, Lines, Panel, Refusal, Response};
+use machine::{Answer, Lines, Panel, Refusal, Response, refuse};
 use masks::{make_changes, make_masks, make_tags, mixed, tops_of};
 
 // ---- the checks, 1 to 7
@@ -28,35 +27,36 @@ fn bad_codes(width: u32, panel: Panel, lines: Lines) -> bool
         let codes = mixed(width, t, panel.sc1, panel.sc2);
         let settings = mixed(width, t, panel.sc3 & care, care);
         let two = codes | settings | (panel.sc3 & !panel.sc1);
-        !(two == 0)
+        two != 0
     } else {
         false
     }
 }
 
 // 4 to 7, where 1 to 3 are passed.
-fn check_rest(words: usize, width: u32, panel: Panel, lines: Lines) -> Check
+#[tactic(auto, using(machine::proofs::Refusals::handed))]
+fn check_rest(words: usize, width: u32, panel: Panel, lines: Lines) -> Result<(), Refusal>
     requires { (0 < width) × (width ≤ 64) }
     ensures { result ≡ rest_check words width panel lines }
 {
-    if machine::bad_panel(width, panel) {
-        return Check::Refused(Refusal::PanelTooWide);
-    }
-    if bad_codes(width, panel, lines) {
-        return Check::Refused(Refusal::TwoCodes);
-    }
+    refuse(Refusal::PanelTooWide, machine::bad_panel(width, panel))?;
+    refuse(Refusal::TwoCodes, bad_codes(width, panel, lines))?;
     machine::check_command(words, panel, lines)
 }
 
 // "A pulse is checked for 1 to 7 .. Checked in number order."
-pub fn check(words: &[u64], responses: &[Response], width: u32, panel: Panel, lines: Lines) -> Check
+#[tactic(auto, using(machine::proofs::Refusals::handed), unfolding(machine::specs::Refusals::pulse_check))]
+pub fn check(
+    words: &[u64],
+    responses: &[Response],
+    width: u32,
+    panel: Panel,
+    lines: Lines,
+) -> Result<(), Refusal>
     ensures { result ≡ pulse_check (machine width words.now responses.now) panel lines }
 {
-    let first = machine::check_machine(words, responses, width);
-    match first {
-        Check::Refused(why) => Check::Refused(why),
-        Check::Passed => check_rest(words.len(), width, panel, lines),
-    }
+    machine::check_machine(words, responses, width)?;
+    check_rest(words.len(), width, panel, lines)
 }
 
 // ---- all words
@@ -171,7 +171,7 @@ pub fn give(
     panel: Panel,
     lines: Lines,
 ) -> usize
-    requires { pulse_check (machine width words.old responses.old) panel lines ≡ check.Passed }
+    requires { pulse_check (machine width words.old responses.old) panel lines ≡ Ok tt }
     ensures value { result ≡ count_of (machine width words.old responses.old) panel lines }
     ensures words_after { words.new ≡ (pulsed (machine width words.old responses.old) panel lines).words }
     ensures responses_after { responses.new ≡ (pulsed (machine width words.old responses.old) panel lines).responses }
@@ -203,18 +203,13 @@ pub fn pulse(
     width: u32,
     panel: Panel,
     lines: Lines,
-) -> Answer
+) -> Result<Answer, Refusal>
     ensures value { result ≡ answer_of (machine width words.old responses.old) panel lines }
     ensures words_after { words.new ≡ (after (machine width words.old responses.old) panel lines).words }
     ensures responses_after { responses.new ≡ (after (machine width words.old responses.old) panel lines).responses }
 {
-    let checked = check(words, responses, width, panel, lines);
-    match checked {
-        Check::Passed => {
-            let read = read_word(panel, lines, words);
-            let count = give(words, responses, width, panel, lines);
-            Answer::Done { count, read }
-        }
-        Check::Refused(why) => Answer::Refused(why),
-    }
+    check(words, responses, width, panel, lines)?;
+    let read = read_word(panel, lines, words);
+    let count = give(words, responses, width, panel, lines);
+    Ok(Answer { count, read })
 }

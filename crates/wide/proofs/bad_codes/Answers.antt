@@ -4,7 +4,6 @@ use lib.Bits.{bit_or, or_lt, and_le_r}
 use Rattle.machine.specs.Refusals.{bad_codes}
 use Rattle.masks.proofs.Words.{fit_tops}
 use Rattle.wide.proofs.Accepted.{two_codes}
-use borrow.Author.Rules.{rules}
 use Rattle.wide.proofs.bad_codes.Goals as goal
 
 pub mixed-codes-requires : goal.mixed-codes-requires

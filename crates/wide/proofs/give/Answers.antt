@@ -2,7 +2,6 @@
 use native.Mathlib.Omega.{arith}
 use Rattle.wide.proofs.Accepted.{accepted}
 use Rattle.wide.proofs.Swept.{in_range, with_address, without_address}
-use borrow.Author.Rules.{rules}
 use Rattle.wide.proofs.give.Goals as goal
 
 pub offset_bounds-words-at : goal.offset_bounds-words-at

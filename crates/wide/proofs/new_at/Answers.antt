@@ -3,7 +3,6 @@ use Prim.Native.Nat.{◌^◌, ◌<◌}
 use native.Mathlib.Omega.{arith}
 use Rattle.machine.specs.Machine.{response_bits}
 use Rattle.wide.proofs.Swept.{at_address}
-use borrow.Author.Rules.{rules}
 use Rattle.wide.proofs.new_at.Goals as goal
 
 pub returns : goal.returns

@@ -1,6 +1,5 @@
 -- The word at the address, where read is raised.
 use native.Mathlib.Omega.{arith}
-use borrow.Author.Rules.{rules}
 use Rattle.wide.proofs.read_word.Goals as goal
 
 pub offset_bounds-words-at : goal.offset_bounds-words-at

@@ -4,7 +4,6 @@ use native.Mathlib.Omega.{arith}
 use lib.ListN.{get_or}
 use Rattle.machine.specs.Machine.{response_bits}
 use Rattle.wide.proofs.Swept.{words_change, selected_count, targets_flip, responses_stay}
-use borrow.Author.Rules.{rules}
 use Rattle.wide.proofs.sweep_others.Goals as goal
 
 pub returns-then-lines : goal.returns-then-lines

@@ -4,7 +4,6 @@ use native.Mathlib.Omega.{arith}
 use lib.ListN.{get_or}
 use Rattle.machine.specs.Machine.{response_bits}
 use Rattle.wide.proofs.Swept.{words_change, words_stay, matches_count, matches_mark}
-use borrow.Author.Rules.{rules}
 use Rattle.wide.proofs.sweep_search.Goals as goal
 
 pub returns-then-lines : goal.returns-then-lines
