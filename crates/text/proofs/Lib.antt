@@ -1,5 +1,4 @@
 -- laws that the functions' proofs cite
-pub mod Letters
 pub mod Pairs
 pub mod Reading
 pub mod Rows

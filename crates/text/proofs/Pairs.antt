@@ -5,32 +5,21 @@ use mathlib.Core.Path.{◌≡◌, refl, sym, ◌∙◌}
 use mathlib.Core.List.{List, [], ◌∷◌}
 use native.Mathlib.Numerals.{add-one}
 use native.Mathlib.Omega.{arith}
-use borrow.Author.Tests.{lt-ltb, le-ltb, le-leb, lt-leb, ltb-true}
+use borrow.Author.Tests.{le-leb, lt-leb, ltb-true}
 use lib.Dec.{ltb}
 use lib.ListN.{length, take, drop, get_or, set}
 use lib.Seq.{sets, drop-cons, drop-length, take-nil}
+use Rattle.std.specs.Prelude.{Option, Some, None}
 use Rattle.laws.specs.Bits.{pick}
 use Rattle.text.specs.Numbers.{digit_of, paired, pairs, bytes_of}
-use Rattle.text.specs.declared.Number.{Number}
-use Rattle.text.specs.declared.Number.TheVariants.{Is, Bad}
 
 -- ---- one pair
 
-module _ (a b h l : ℕ) (e : h ≡ digit_of a) (f : l ≡ digit_of b) where
-  pub high_none : 15 < h → Bad ≡ pick (ltb (digit_of a) 16 && ltb (digit_of b) 16) (Is (digit_of a * 16 + digit_of b)) Bad
-  high_none k = rw (← e, le-ltb h 16 (omega arith))
-
-  pub low_none : h ≤ 15 → 15 < l → Bad ≡ pick (ltb (digit_of a) 16 && ltb (digit_of b) 16) (Is (digit_of a * 16 + digit_of b)) Bad
-  low_none k m = rw (← e, ← f, lt-ltb h 16 (omega arith), le-ltb l 16 (omega arith))
-
-  pub both : h ≤ 15 → l ≤ 15 → Is (h * 16 + l) ≡ pick (ltb (digit_of a) 16 && ltb (digit_of b) 16) (Is (digit_of a * 16 + digit_of b)) Bad
-  both k m = rw (← e, ← f, lt-ltb h 16 (omega arith), lt-ltb l 16 (omega arith))
-
-is_told : (t : Bool) (x v : ℕ) → Is v ≡ pick t (Is x) Bad → (t ≡ true) × (v ≡ x)
+is_told : (t : Bool) (x v : ℕ) → Some v ≡ pick t (Some x) None → (t ≡ true) × (v ≡ x)
 is_told true x v e = (refl, cc)
 is_told false x v e = let z : ◌≡◌ {A = ℕ} 0 1 = cc in let y : ⊥ = omega arith in absurd y
 
-bad_told : (t : Bool) (x : ℕ) → Bad ≡ pick t (Is x) Bad → t ≡ false
+bad_told : (t : Bool) (x : ℕ) → None ≡ pick t (Some x) None → t ≡ false
 bad_told true x e = let z : ◌≡◌ {A = ℕ} 0 1 = cc in let y : ⊥ = omega arith in absurd y
 bad_told false x e = refl
 
@@ -84,17 +73,17 @@ begun out s =
     let e : length out - 0 ≡ length out = omega arith in record { right = refl; count = omega arith; whole = rw e }
 
 -- the answer and the buffer at an end
-abbrev pub Ends : List ℕ → List ℕ → List ℕ → Number → Type 0
+abbrev pub Ends : List ℕ → List ℕ → List ℕ → Option ℕ → Type 0
 Ends out₀ s out r = (r ≡ bytes_of (length out₀) s) × (out ≡ sets out₀ 0 (take (length out₀) (pairs s)))
 
 module _ (out₀ s out : List ℕ) (n i : ℕ) (so_far : Pairing out₀ s out n i) where
-  wrong : paired (drop i s) ≡ false → Bad ≡ bytes_of (length out₀) s
+  wrong : paired (drop i s) ≡ false → None ≡ bytes_of (length out₀) s
   wrong e = rw (← so_far.right, e)
 
   no_pairs : pairs (drop i s) ≡ [] → out ≡ sets out₀ 0 (take (length out₀) (pairs s))
   no_pairs e = rw (e, take-nil) at so_far.whole
 
-  pub all_read : length s ≡ i → n ≤ length out₀ → Ends out₀ s out (Is n)
+  pub all_read : length s ≡ i → n ≤ length out₀ → Ends out₀ s out (Some n)
   all_read e h =
       let no_more : drop i s ≡ [] = rw (← e, drop-length) in
       let f : paired s ≡ true = sym so_far.right ∙ (rw no_more none_paired) in
@@ -102,7 +91,7 @@ module _ (out₀ s out : List ℕ) (n i : ℕ) (so_far : Pairing out₀ s out n 
       (rw (f, g, le-leb n (length out₀) h), no_pairs (rw no_more none_pairs))
 
   module _ (inside : i < length s) where
-    pub odd : length s - i < 2 → Ends out₀ s out Bad
+    pub odd : length s - i < 2 → Ends out₀ s out None
     odd h =
         let e : length s ≡ suc i = omega arith in
         let last : drop i s ≡ get_or s i 0 ∷ [] = rw (drop-cons s i 0 inside, ← e, drop-length) in
@@ -120,7 +109,7 @@ module _ (out₀ s out : List ℕ) (n i : ℕ) (so_far : Pairing out₀ s out n 
       abbrev value : ℕ
       value = digit_of (get_or s i 0) * 16 + digit_of (get_or s (i + 1) 0)
 
-      none_more : good ≡ false → Ends out₀ s out Bad
+      none_more : good ≡ false → Ends out₀ s out None
       none_more e = (wrong (rw (left, two_paired, e)), no_pairs (rw (left, two_pairs, e)))
 
       more : good ≡ true → pairs (drop i s) ≡ value ∷ pairs (drop (i + 2) s)
@@ -129,20 +118,20 @@ module _ (out₀ s out : List ℕ) (n i : ℕ) (so_far : Pairing out₀ s out n 
       counted : good ≡ true → n + suc (length (pairs (drop (i + 2) s))) ≡ length (pairs s)
       counted e = rw (more e) at so_far.count
 
-      full_by : (t : Bool) → good ≡ t → length out₀ ≤ n → Bad ≡ bytes_of (length out₀) s
+      full_by : (t : Bool) → good ≡ t → length out₀ ≤ n → None ≡ bytes_of (length out₀) s
       full_by true e h = rw (lt-leb (length (pairs s)) (length out₀) (omega (arith, counted e)), and_false)
       full_by false e h = (none_more e).0
 
-      pub full : length out₀ ≤ n → Ends out₀ s out Bad
+      pub full : length out₀ ≤ n → Ends out₀ s out None
       full h =
           let e : length out₀ - n ≡ 0 = omega arith in
           (full_by good refl h, rw e at so_far.whole)
 
-      module _ (found : Number) (is : found ≡ pick good (Is value) Bad) where
-        pub no_pair : found ≡ Bad → Ends out₀ s out Bad
+      module _ (found : Option ℕ) (is : found ≡ pick good (Some value) None) where
+        pub no_pair : found ≡ None → Ends out₀ s out None
         no_pair e = none_more (bad_told _ _ (sym e ∙ is))
 
-        pub one_pair : n < length out₀ → (v : ℕ) → found ≡ Is v → (out' : List ℕ) → out' ≡ set out n (v % 256) → Pairing out₀ s out' (n + 1) (i + 2)
+        pub one_pair : n < length out₀ → (v : ℕ) → found ≡ Some v → (out' : List ℕ) → out' ≡ set out n (v % 256) → Pairing out₀ s out' (n + 1) (i + 2)
         one_pair k v e out' f =
             let x = digit_of (get_or s i 0) in
             let y = digit_of (get_or s (i + 1) 0) in

@@ -11,12 +11,11 @@ use borrow.Author.Tests.{eq-eqb, ne_eqb}
 use lib.Dec.{eqb}
 use lib.ListN.{length, take, drop, get_or, set}
 use lib.Seq.{sets, drop-cons, drop-length}
+use Rattle.std.specs.Prelude.{Option, Some, None}
 use Rattle.laws.specs.Bits.{pick}
 use Rattle.text.specs.Numbers.{number_of, at_most, letter_of}
 use Rattle.text.specs.Rows.{is_number, value_of, fitting, numbers_of}
 use Rattle.text.specs.Words.{word_at, words_of}
-use Rattle.text.specs.declared.Number.{Number}
-use Rattle.text.specs.declared.Number.TheVariants.{Is, Bad}
 use Rattle.text.specs.declared.Place.{Place}
 use Rattle.text.proofs.Runs.{here_none, here_one, here_ordered}
 
@@ -48,7 +47,7 @@ no_number_left ws = refl
 
 -- ---- no word says no number, whatever the letter
 
-all_bad : (a b c d e : Bool) → pick a Bad (pick b Bad (pick c Bad (pick d Bad (pick e Bad Bad)))) ≡ Bad
+all_bad : (a b c d e : Bool) → pick {A = Option ℕ} a None (pick b None (pick c None (pick d None (pick e None None)))) ≡ None
 all_bad true b c d e = refl
 all_bad false true c d e = refl
 all_bad false false true d e = refl
@@ -56,29 +55,29 @@ all_bad false false false true e = refl
 all_bad false false false false true = refl
 all_bad false false false false false = refl
 
-no_word : (l : ℕ) → letter_of l [] ≡ Bad
+no_word : (l : ℕ) → letter_of l [] ≡ None
 unfolding letter_of at_most number_of
 no_word l = all_bad (eqb l 98) (eqb l 110) (eqb l 107) (eqb l 97) (eqb l 104)
 
 -- ---- one letter more, and its word
 
 module _ (line letters : List ℕ) (at i : ℕ) (p : Place) (is : p ≡ word_at line at) (inside : at ≤ length line) (more : i < length letters)
-    (found : Number) (told : found ≡ letter_of (get_or letters i 0) (take (p.to - p.from) (drop p.from line))) where
+    (found : Option ℕ) (told : found ≡ letter_of (get_or letters i 0) (take (p.to - p.from) (drop p.from line))) where
   first : drop i letters ≡ get_or letters i 0 ∷ drop (i + 1) letters
   first = rw (add-one i, drop-cons letters i 0 more)
 
-  pub row_bad : found ≡ Bad → fitting (drop i letters) (words_of (drop at line)) ≡ false
+  pub row_bad : found ≡ None → fitting (drop i letters) (words_of (drop at line)) ≡ false
   row_bad e =
       ⊎_elim (λ (f : p.from ≡ p.to). rw (first, here_none line at p is inside f) (few (get_or letters i 0) (drop (i + 1) letters)))
       (λ (h : p.from < p.to). rw (first, here_one line at p is inside h, one_fits, ← told, e))
       (eq-or-lt_of_le (here_ordered line at p is inside))
 
-  module _ (x : ℕ) (e : found ≡ Is x) where
+  module _ (x : ℕ) (e : found ≡ Some x) where
     some : p.from < p.to
     some =
         ⊎_elim (λ (f : p.from ≡ p.to).
         let n : p.to - p.from ≡ 0 = omega arith in
-        let b : found ≡ Bad = told ∙ (rw n (no_word (get_or letters i 0))) in
+        let b : found ≡ None = told ∙ (rw n (no_word (get_or letters i 0))) in
         let z : ◌≡◌ {A = ℕ} 0 1 = cc in let y : ⊥ = omega arith in absurd y)
         (λ (h : p.from < p.to). h)
         (eq-or-lt_of_le (here_ordered line at p is inside))

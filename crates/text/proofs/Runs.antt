@@ -1,13 +1,14 @@
 -- A run of bytes that pass a test, one byte at a time.
 use Prim.Native.Nat.{ℕ, suc, ◌+◌, ◌-◌, ◌<◌, ◌≤◌}
-use mathlib.Core.Bool.{Bool, true, false, ◌&&◌}
-use mathlib.Core.Path.{◌≡◌, refl, ap, sym, ◌∙◌}
+use mathlib.Core.Bool.{Bool, true, false}
+use mathlib.Core.Path.{◌≡◌, refl, sym, ◌∙◌}
 use mathlib.Core.List.{List, [], ◌∷◌}
 use native.Mathlib.Numerals.{add-one}
 use native.Mathlib.Omega.{arith}
 use lib.ListN.{length, take, drop, get_or}
-use borrow.Author.Tests.{le-leb, eq-eqb, ne_eqb}
+use borrow.Author.Tests.{le-leb}
 use lib.Dec.{eqb}
+use lib.Pointwise.{pointwise}
 use lib.Seq.{drop-cons, drop-length, drop-drop}
 use Rattle.text.specs.Words.{is_space, ahead, within, end_of, word_at, opens, joined, words_of, alike, place_of}
 use Rattle.text.specs.declared.Place.{Place}
@@ -138,36 +139,14 @@ module _ (line : List ℕ) (at : ℕ) (p : Place) (is : p ≡ word_at line at) (
       let n : p.to - p.from ≡ ahead (is_space false) (drop p.from line) = omega (arith, to_is) in
       rw (← at_from, n, to_is, ← drop-drop) (fresh_one (drop p.from line) fresh_from (omega (arith, to_is)))
 
--- ---- two words byte by byte
+-- ---- two words byte by byte: alike where they are the same bytes
 
-and_false : (x : Bool) → x && false ≡ false
-and_false true = refl
-and_false false = refl
-
-pub unlike_length : (s t : List ℕ) → (length s ≡ length t → ⊥) → false ≡ alike s t
+pub same_alike : (s t : List ℕ) → pointwise eqb s t ≡ alike s t
 unfolding alike
-unlike_length [] [] h = absurd (h refl)
-unlike_length [] (b ∷ t) h = refl
-unlike_length (a ∷ s) [] h = refl
-unlike_length (a ∷ s) (b ∷ t) h = rw (← unlike_length s t (λ e. h (ap suc e)), and_false)
-
-cons_alike : (a b : ℕ) (s t : List ℕ) → alike (a ∷ s) (b ∷ t) ≡ eqb a b && alike s t
-unfolding alike
-cons_alike a b s t = refl
-
-pub alike_end : true ≡ alike [] []
-unfolding alike
-alike_end = refl
-
-module _ (s t : List ℕ) (i : ℕ) (r : Bool) (told : alike (drop i s) (drop i t) ≡ r) where
-  pub alike_on : i < length s → i < length t → get_or s i 0 ≡ get_or t i 0 → alike (drop (i + 1) s) (drop (i + 1) t) ≡ r
-  alike_on h k e = rw (add-one i) (rw (drop-cons s i 0 h, drop-cons t i 0 k, cons_alike, eq-eqb (get_or s i 0) (get_or t i 0) e) at told)
-
-  pub alike_not : i < length s → i < length t → (get_or s i 0 ≡ get_or t i 0 → ⊥) → false ≡ r
-  alike_not h k e = rw (drop-cons s i 0 h, drop-cons t i 0 k, cons_alike, ne_eqb (get_or s i 0) (get_or t i 0) e) at told
-
-  pub alike_all : length s ≡ i → length t ≡ i → true ≡ r
-  alike_all e f = alike_end ∙ (rw (← e, drop-length, e, ← f, drop-length) at told)
+same_alike [] [] = refl
+same_alike [] (b ∷ t) = refl
+same_alike (a ∷ s) [] = refl
+same_alike (a ∷ s) (b ∷ t) = rw (same_alike s t)
 
 -- ---- the place of a word among names: r is what is told of all of them, and number of those before `at`
 

@@ -1,20 +1,18 @@
 -- A line's numbers, read by a row of letters, one for each number that a command takes.
-use Rattle.std.specs.Prelude.{ℕ, ◌%◌, Bool, true, false, ◌&&◌, List, [], ◌∷◌, get_or, replicate}
+use Rattle.std.specs.Prelude.{Option, Some, None, ℕ, ◌%◌, Bool, true, false, ◌&&◌, List, [], ◌∷◌, get_or, replicate}
 use Prim.Native.String.{String}
 use Rattle.std.proofs.lemmas.List.Edits.{sets}
 use Rattle.text.specs.Ascii.{ascii}
 use Rattle.text.specs.Numbers.{letter_of}
-use Rattle.text.specs.declared.Number.{Number}
-use Rattle.text.specs.declared.Number.TheVariants.{Is, Bad}
 
 -- whether a word says a number, and which
-abbrev pub is_number : Number → Bool
-is_number (Is x) = true
-is_number Bad = false
+abbrev pub is_number : Option ℕ → Bool
+is_number (Some x) = true
+is_number None = false
 
-abbrev pub value_of : Number → ℕ
-value_of (Is x) = x
-value_of Bad = 0
+abbrev pub value_of : Option ℕ → ℕ
+value_of (Some x) = x
+value_of None = 0
 
 -- "has too few or too many words, a number outside its range": right is a number for each letter and no word more
 unfoldable pub fitting : List ℕ → List (List ℕ) → Bool

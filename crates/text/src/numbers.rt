@@ -1,91 +1,67 @@
 // Numbers as a line writes them: "HEX is 1 to 16 digits, either case"; "every other number is decimal digits with no sign; leading
-// zeros are taken". A number of 2^64 or more is a bad one. Also an image's bytes, each a pair of hex digits.
-ghost use Rattle.std.specs.Prelude.{◌≡◌, ◌+◌, ◌*◌, ◌≤◌, ◌%◌, ◌&&◌, ltb, length, take};
+// zeros are taken". A number of 2^64 or more is a bad one, and none. Also an image's bytes, each a pair of hex digits.
+ghost use Rattle.std.specs.Prelude.{◌≡◌, ◌+◌, ◌*◌, ◌<◌, ◌≤◌, ◌%◌, ◌&&◌, ltb, length, take, Option, Some, None, MatchOption};
 ghost use Rattle.std.proofs.lemmas.List.Edits.{sets};
 ghost use Rattle.laws.specs.Bits.{pick};
 ghost use Rattle.text.specs.Numbers.{digit_of, number_of, decimal_of, hex_of, at_most, pairs, bytes_of};
 
-use crate::Number;
-
-// What a byte stands for as a digit of either case; 16 for a byte that is none.
-pub(crate) fn digit(byte: u8) -> u64
-    ensures { (result ≡ digit_of byte) × (result ≤ 16) }
+// What a byte stands for as a digit of either case.
+#[tactic(auto, using(std::proofs::lemmas::Bool::Decides::nat_tests), unfolding(crate::specs::Numbers::digit_of))]
+fn digit(byte: u8) -> Option<u64>
+    ensures { MatchOption result (16 ≤ digit_of byte) (λ d. (d ≡ digit_of byte) × (d < 16)) }
 {
-    if byte < 48 {
-        return 16;
+    match byte {
+        b'0'..=b'9' => Some(u64::from(byte - b'0')),
+        b'A'..=b'F' => Some(u64::from(byte - b'A' + 10)),
+        b'a'..=b'f' => Some(u64::from(byte - b'a' + 10)),
+        _ => None,
     }
-    if byte < 58 {
-        return (byte - 48) as u64;
-    }
-    if byte < 65 {
-        return 16;
-    }
-    if byte < 71 {
-        return (byte - 55) as u64;
-    }
-    if byte < 97 {
-        return 16;
-    }
-    if byte < 103 {
-        return (byte - 87) as u64;
-    }
-    16
 }
 
 // A number by its digits to this base, of which there is at least one.
-fn number(s: &[u8], base: u64) -> Number
+fn number(s: &[u8], base: u64) -> Option<u64>
     requires { (2 ≤ base) × (base ≤ 16) }
     ensures { result ≡ number_of base s.now }
 {
-    if s.len() == 0 {
-        return Number::Bad;
+    if s.is_empty() {
+        return None;
     }
     let mut value: u64 = 0;
-    let mut i: usize = 0;
-    while i < s.len() {
-        let d = digit(s[i]);
+    for byte in s {
+        let d = digit(*byte)?;
         if base <= d {
-            return Number::Bad;
+            return None;
         }
         if (u64::MAX - d) / base < value {
-            return Number::Bad;
+            return None;
         }
         value = value * base + d;
-        i += 1;
     }
-    Number::Is(value)
+    Some(value)
 }
 
-pub fn decimal(s: &[u8]) -> Number
+pub fn decimal(s: &[u8]) -> Option<u64>
     ensures { result ≡ decimal_of s.now }
 {
     number(s, 10)
 }
 
 // "so 17 digits are a bad line even with leading zeros"
-pub(crate) fn hex(s: &[u8]) -> Number
+pub(crate) fn hex(s: &[u8]) -> Option<u64>
     ensures { result ≡ hex_of s.now }
 {
     if 16 < s.len() {
-        return Number::Bad;
+        return None;
     }
     number(s, 16)
 }
 
 // A number outside its range is a bad one.
-pub(crate) fn at_most(x: Number, most: u64) -> Number
+#[tactic(auto, using(std::proofs::lemmas::Bool::Decides::nat_tests), unfolding(crate::specs::Numbers::at_most))]
+pub(crate) fn at_most(x: Option<u64>, most: u64) -> Option<u64>
     ensures { result ≡ at_most most x }
 {
-    match x {
-        Number::Is(value) => {
-            if value <= most {
-                Number::Is(value)
-            } else {
-                Number::Bad
-            }
-        }
-        Number::Bad => Number::Bad,
-    }
+    x.filter(|value| *value <= most)
 }
 
 // The low 8 bits: the number itself where it was read as one to 255.
@@ -96,22 +72,14 @@ pub fn byte(x: u64) -> u8
 }
 
 // The byte that two digits stand for.
-fn pair(high: u8, low: u8) -> Number
-    ensures { result ≡ pick (ltb (digit_of high) 16 && ltb (digit_of low) 16) (Number.Is (digit_of high * 16 + digit_of low)) Number.Bad }
+fn pair(high: u8, low: u8) -> Option<u64>
+    ensures { result ≡ pick (ltb (digit_of high) 16 && ltb (digit_of low) 16) (Some (digit_of high * 16 + digit_of low)) None }
 {
-    let h = digit(high);
-    let l = digit(low);
-    if 15 < h {
-        return Number::Bad;
-    }
-    if 15 < l {
-        return Number::Bad;
-    }
-    Number::Is(h * 16 + l)
+    Some(digit(high)? * 16 + digit(low)?)
 }
 
-// An image's digit pairs as bytes, from the start of `out`: how many; bad where a digit is none or has no partner, or `out` has no room.
-pub fn bytes(s: &[u8], out: &mut [u8]) -> Number
+// An image's digit pairs as bytes, from the start of `out`: how many; none where a digit is none or has no partner, or `out` has no room.
+pub fn bytes(s: &[u8], out: &mut [u8]) -> Option<u64>
     ensures value { result ≡ bytes_of (length out.old) s.now }
     ensures out_after { out.new ≡ sets out.old 0 (take (length out.old) (pairs s.now)) }
 {
@@ -119,18 +87,15 @@ pub fn bytes(s: &[u8], out: &mut [u8]) -> Number
     let mut n: usize = 0;
     while i < s.len() {
         if s.len() - i < 2 {
-            return Number::Bad;
+            return None;
         }
         if out.len() <= n {
-            return Number::Bad;
+            return None;
         }
-        let found = pair(s[i], s[i + 1]);
-        let Number::Is(value) = found else {
-            return Number::Bad;
-        };
+        let value = pair(s[i], s[i + 1])?;
         out[n] = byte(value);
         n += 1;
         i += 2;
     }
-    Number::Is(n as u64)
+    Some(n as u64)
 }

@@ -1,6 +1,6 @@
 // The words of a line: they "stand apart by one or more spaces, and by nothing else".
 ghost use Rattle.std.specs.Prelude.{◌≡◌, ◌≤◌, eqb, length};
-ghost use Rattle.text.specs.Words.{is_space, end_of, within, word_at, words_of, alike, place_of};
+ghost use Rattle.text.specs.Words.{is_space, end_of, within, word_at, words_of, place_of};
 
 use crate::Place;
 
@@ -10,7 +10,7 @@ const SPACE: u8 = 32;
 fn is_space(byte: u8, spaces: bool) -> bool
     ensures { result ≡ is_space spaces byte }
 {
-    if spaces { byte == SPACE } else { byte != SPACE }
+    (byte == SPACE) == spaces
 }
 
 // The end of the spaces, or with `spaces` false of the other bytes, that stand at `at`.
@@ -18,24 +18,23 @@ fn run_end(line: &[u8], at: usize, spaces: bool) -> usize
     requires { at ≤ length line.now }
     ensures { (at ≤ result) × (result ≤ length line.now) × (result ≡ end_of spaces line.now at) }
 {
-    let mut i = at;
-    while i < line.len() {
+    for i in at..line.len() {
         if !is_space(line[i], spaces) {
             return i;
         }
-        i += 1;
     }
-    i
+    line.len()
 }
 
 // A place of the line, or its end where that is before it.
 fn inside(line: &[u8], at: usize) -> usize
     ensures { (result ≡ within line.now at) × (result ≤ length line.now) × (at ≤ length line.now → result ≡ at) }
 {
-    if at <= line.len() { at } else { line.len() }
+    at.min(line.len())
 }
 
 // The next word at or after `at`; an empty one at the line's end where there is none.
+#[tactic(auto, unfolding(crate::specs::Words::word_at))]
 pub fn next(line: &[u8], at: usize) -> Place
     ensures value { result ≡ word_at line.now at }
     ensures from_le_to { (result.from ≤ result.to) × ((result.to ≤ length line.now) × (at ≤ length line.now → at ≤ result.from)) }
@@ -54,22 +53,6 @@ pub fn none_left(line: &[u8], at: usize) -> bool
     word.from == word.to
 }
 
-fn same(a: &[u8], b: &[u8]) -> bool
-    ensures { result ≡ alike a.now b.now }
-{
-    if a.len() != b.len() {
-        return false;
-    }
-    let mut i: usize = 0;
-    while i < a.len() {
-        if a[i] != b[i] {
-            return false;
-        }
-        i += 1;
-    }
-    true
-}
-
 // Which of the names, counted from 0, is the word; as many as there are where it is none of them.
 pub fn which(names: &[u8], word: &[u8]) -> usize
     ensures { result ≡ place_of word.now (words_of names.now) }
@@ -78,15 +61,13 @@ pub fn which(names: &[u8], word: &[u8]) -> usize
     let mut at: usize = 0;
     while at < names.len() {
         let name = next(names, at);
-        let from = name.from;
-        let to = name.to;
-        if from == to {
+        if name.from == name.to {
             return number;
         }
-        if same(&names[from..to], word) {
+        if &names[name.from..name.to] == word {
             return number;
         }
-        at = to;
+        at = name.to;
         number += 1;
     }
     number

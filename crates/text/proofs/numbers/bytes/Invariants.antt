@@ -1,9 +1,7 @@
 use Prim.Native.Nat.{◌-◌, ◌≤◌}
-use mathlib.Core.Path.{◌≡◌, ap}
-use native.Mathlib.Omega.{arith}
-use lib.ListN.{length, set}
-use Rattle.text.proofs.Pairs.{Pairing, begun, odd, full, no_pair, one_pair, all_read}
-use borrow.Author.Rules.{rules}
+use mathlib.Core.Path.{◌≡◌}
+use lib.ListN.{length}
+use Rattle.text.proofs.Pairs.{Pairing}
 use Rattle.text.proofs.numbers.bytes.Given as goal
 
 abbrev pub invariant-loop-i : goal.invariant-loop-i

@@ -1,10 +1,7 @@
 use Prim.Native.Nat.{◌+◌, ◌-◌, ◌≤◌}
-use mathlib.Core.Path.{◌≡◌, sym, ◌∙◌}
-use native.Mathlib.Omega.{arith}
+use mathlib.Core.Path.{◌≡◌}
 use lib.ListN.{length, drop}
 use Rattle.text.specs.Words.{place_of, words_of}
-use Rattle.text.proofs.Runs.{here_none, here_one, placed_none, placed_end, placed_here, placed_later}
-use borrow.Author.Rules.{rules}
 use Rattle.text.proofs.words.which.Given as goal
 
 abbrev pub invariant-loop-at : goal.invariant-loop-at
