@@ -1,5 +1,5 @@
 -- What it means that none of 20 to 25 is given: kind by kind, and the bounds that hold for every kind, as unused fields are 0.
-use Prim.Native.Nat.{ℕ, zero, ◌+◌, ◌≤◌, ◌<◌}
+use Prim.Native.Nat.{ℕ, ◌+◌, ◌≤◌, ◌<◌}
 use mathlib.Core.Path.{◌≡◌, refl, subst}
 use mathlib.Core.Bool.{Bool, true, false, not, ◌&&◌, ◌||◌}
 use native.Mathlib.Omega.{arith}
@@ -8,7 +8,7 @@ use borrow.Author.Tests.{ltb-true, ltb-false, leb-false, eqb-true, eqb-false, no
 use Rattle.machine.specs.declared.ResponseBit.{ResponseBit}
 use Rattle.machine.specs.declared.Syllable.{Syllable}
 use Rattle.machine.specs.declared.Syllable.TheVariants.{A, B, P}
-use Rattle.machine.specs.declared.Check.TheVariants.{Passed}
+use Rattle.std.specs.Prelude.{Ok}
 use Rattle.machine.specs.Machine.{response_bits}
 use Rattle.machine.specs.Refusals.{bit_check, apart_check, care_check, in_care}
 use Rattle.machine.proofs.Refusals.{else_passed, not_refused}
@@ -29,7 +29,7 @@ pub record Whole (n : ℕ) (s : Span) : Type 0 where
   pub some : 0 < s.width
   pub fits : s.low.0 + s.width ≤ n
 
-pub whole : (n : ℕ) (name : Syllable) (s : Span) → empty_check name s ≡ Passed → beyond_check n name s ≡ Passed → Whole n s
+pub whole : (n : ℕ) (name : Syllable) (s : Span) → empty_check name s ≡ Ok tt → beyond_check n name s ≡ Ok tt → Whole n s
 whole n name s h g = record {
   some = omega (arith, eqb-false s.width 0 (not_refused _ (eqb s.width 0) h));
   fits = ltb-false n (s.low.0 + s.width) (not_refused _ (ltb n (s.low.0 + s.width)) g);
@@ -39,7 +39,7 @@ pub record Working (care : ℕ) (x : ResponseBit) : Type 0 where
   pub below : x.0 < response_bits
   pub free : in_care care x ≡ false
 
-pub working : (care : ℕ) (x : ResponseBit) → bit_check x ≡ Passed → care_check care x ≡ Passed → Working care x
+pub working : (care : ℕ) (x : ResponseBit) → bit_check x ≡ Ok tt → care_check care x ≡ Ok tt → Working care x
 working care x h g = record { below = leb-false response_bits x.0 (not_refused _ (leb response_bits x.0) h); free = not_refused _ (in_care care x) g }
 
 pub record ExtremeFields (n : ℕ) (o : Job) : Type 0 where
@@ -48,7 +48,7 @@ pub record ExtremeFields (n : ℕ) (o : Job) : Type 0 where
   pub apart : o.x.0 ≡ o.y.0 → ⊥
   pub a : Whole n o.a
 
-pub extreme_fields : (n : ℕ) (o : Job) → extreme_check n o ≡ Passed → ExtremeFields n o
+pub extreme_fields : (n : ℕ) (o : Job) → extreme_check n o ≡ Ok tt → ExtremeFields n o
 unfolding extreme_check
 extreme_fields n o h =
     let a = else_passed (empty_check A o.a) _ h in
@@ -70,7 +70,7 @@ pub record ScaledFields (n : ℕ) (o : Job) : Type 0 where
   pub p : Whole n o.p
   pub apart : overlaps o.p o.a ≡ false
 
-pub scaled_fields : (n : ℕ) (o : Job) → scaled_add_check n o ≡ Passed → ScaledFields n o
+pub scaled_fields : (n : ℕ) (o : Job) → scaled_add_check n o ≡ Ok tt → ScaledFields n o
 unfolding scaled_add_check
 scaled_fields n o h =
     let a = else_passed (empty_check A o.a) _ h in
@@ -91,7 +91,7 @@ pub record ProductFields (n : ℕ) (o : Job) : Type 0 where
   pub b : Whole n o.b
   pub apart : overlaps o.p o.b ≡ false
 
-pub product_fields : (n : ℕ) (o : Job) → product_check n o ≡ Passed → ProductFields n o
+pub product_fields : (n : ℕ) (o : Job) → product_check n o ≡ Ok tt → ProductFields n o
 unfolding product_check
 product_fields n o h =
     let a = else_passed (empty_check A o.a) _ h in
@@ -115,11 +115,11 @@ product_fields n o h =
     }
 
 -- every job that is not turned down at its start has an A
-pub has_a : (n : ℕ) (o : Job) → used_check n o ≡ Passed → Whole n o.a
+pub has_a : (n : ℕ) (o : Job) → used_check n o ≡ Ok tt → Whole n o.a
 unfolding used_check
 has_a n o h = go (kind_of o.kind) h
   where
-    go : (k : Kind) → used_check_for k n o ≡ Passed → Whole n o.a
+    go : (k : Kind) → used_check_for k n o ≡ Ok tt → Whole n o.a
     go greatest h = (extreme_fields n o h).a
     go smallest h = (extreme_fields n o h).a
     go scaledAdd h = (scaled_fields n o h).a
@@ -129,11 +129,11 @@ has_a n o h = go (kind_of o.kind) h
 -- ---- a held job that is not turned down
 
 pub record Fair (n : ℕ) (o : Job) (k : Kind) : Type 0 where
-  pub used : used_check_for k n o ≡ Passed
+  pub used : used_check_for k n o ≡ Ok tt
   pub zero : unused_zero_for k o ≡ true
   pub place : in_table_for k o ≡ true
 
-pub fair : (n : ℕ) (o : Job) → held_check n o ≡ Passed → Fair n o (kind_of o.kind)
+pub fair : (n : ℕ) (o : Job) → held_check n o ≡ Ok tt → Fair n o (kind_of o.kind)
 unfolding held_check used_check unused_zero in_table
 fair n o h =
     let a = else_passed (used_check_for (kind_of o.kind) n o) _ h in
@@ -144,11 +144,11 @@ fair n o h =
       place = not-false _ (not_refused _ (not (in_table o)) b.1);
     }
 
--- at its kind's number
-pub fair_as : (n : ℕ) (o : Job) (k : ℕ) → held_check n o ≡ Passed → o.kind ≡ k → Fair n o (kind_of k)
-fair_as n o k h e = subst (λ (x : ℕ). Fair n o (kind_of x)) e (fair n o h)
+-- at its kind
+pub fair_as : (n : ℕ) (o : Job) (k : Kind) → held_check n o ≡ Ok tt → kind_of o.kind ≡ k → Fair n o k
+fair_as n o k h e = subst (λ (k : Kind). Fair n o k) e (fair n o h)
 
-pub used_fields : (n : ℕ) (o : Job) → held_check n o ≡ Passed → used_check n o ≡ Passed
+pub used_fields : (n : ℕ) (o : Job) → held_check n o ≡ Ok tt → used_check n o ≡ Ok tt
 unfolding held_check
 used_fields n o h = (else_passed (used_check n o) _ h).0
 
@@ -199,7 +199,7 @@ pub record Sum (n : ℕ) (o : Job) : Type 0 where
 low_zero : (s : Span) → is_zero s ≡ true → s.low.0 ≡ 0
 low_zero s h = eqb-true s.low.0 0 (and_true (eqb s.low.0 0) (eqb s.width 0) h).0
 
-extreme_room : (n : ℕ) (o : Job) → extreme_check n o ≡ Passed → unused_zero_for greatest o ≡ true → extreme_place o ≡ true → Room n o
+extreme_room : (n : ℕ) (o : Job) → extreme_check n o ≡ Ok tt → unused_zero_for greatest o ≡ true → extreme_place o ≡ true → Room n o
 extreme_room n o h g l =
     let f = extreme_fields n o h in
     let c = and_true _ (eqb o.c 0) g in
@@ -252,5 +252,5 @@ room_for n o product f =
     record { x = omega arith; y = g.both.y_bit.below; a = omega arith; b = omega arith; i = omega arith; j = omega arith }
 room_for n o unknown f = let h = f.used in let z : ◌≡◌ {A = ℕ} 0 1 = cc in absurd (omega arith)
 
-pub room : (n : ℕ) (o : Job) → held_check n o ≡ Passed → Room n o
+pub room : (n : ℕ) (o : Job) → held_check n o ≡ Ok tt → Room n o
 room n o h = room_for n o (kind_of o.kind) (fair n o h)

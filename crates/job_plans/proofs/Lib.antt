@@ -1,6 +1,5 @@
 -- laws that the functions' proofs cite
 pub mod ByKind
 pub mod Fair
-pub mod Grouped
 pub mod Shifts
 pub mod Places

@@ -2,36 +2,35 @@
 use Prim.Native.Nat.{ℕ, ◌≤◌, ◌<◌}
 use mathlib.Core.Path.{◌≡◌, sym, ap}
 use native.Mathlib.Omega.{arith}
-use Rattle.machine.specs.declared.Check.TheVariants.{Passed}
+use Rattle.std.specs.Prelude.{Some, None, Ok}
 use Rattle.machine.specs.Machine.{Machine}
 use Rattle.machine.specs.Refusals.{machine_check}
 use Rattle.machine.proofs.Refusals.{else_passed, sound, width_le}
 use Rattle.job_plans.specs.declared.Job.{Job}
-use Rattle.job_plans.specs.declared.Held.{Held}
-use Rattle.job_plans.specs.declared.Held.TheVariants.{Nothing, Holds}
+use Rattle.job_plans.specs.Fields.{Held}
 use Rattle.job_plans.specs.Places.{held_check, step_held_check, step_check}
 use Rattle.job_plans.proofs.Fair.{room}
 
 pub record Good (m : Machine) (h : Held) : Type 0 where
-  pub machine : machine_check m ≡ Passed
-  pub held : step_held_check m.width h ≡ Passed
+  pub machine : machine_check m ≡ Ok tt
+  pub held : step_held_check m.width h ≡ Ok tt
 
-pub good : (m : Machine) (h : Held) → step_check m h ≡ Passed → Good m h
+pub good : (m : Machine) (h : Held) → step_check m h ≡ Ok tt → Good m h
 unfolding step_check
 good m h e =
     let a = else_passed (machine_check m) (step_held_check m.width h) e in record { machine = a.0; held = a.1 }
 
-module _ (m : Machine) (o : Job) (ok : step_check m (Holds o) ≡ Passed) where
+module _ (m : Machine) (o : Job) (ok : step_check m (Some o) ≡ Ok tt) where
   pub narrow : m.width ≤ 64
-  narrow = width_le m.width (sound m (good m (Holds o) ok).machine).width
+  narrow = width_le m.width (sound m (good m (Some o) ok).machine).width
 
-  pub fair_held : held_check m.width o ≡ Passed
-  fair_held = (good m (Holds o) ok).held
+  pub fair_held : held_check m.width o ≡ Ok tt
+  fair_held = (good m (Some o) ok).held
 
   pub few : (o.i < 64) × (o.j < 64)
   few = let r = room m.width o fair_held in (omega (arith, narrow, r.i), omega (arith, narrow, r.j))
 
 module _ (m : Machine) (h : Held) where
-  pub step_none : step_check m h ≡ Passed → h ≡ Nothing → ⊥
+  pub step_none : step_check m h ≡ Ok tt → h ≡ None → ⊥
   step_none e d =
       let b = (good m h e).held in let c = ap (step_held_check m.width) (sym d) in let z : ◌≡◌ {A = ℕ} 0 1 = cc in omega arith

@@ -1,28 +1,44 @@
 -- Document 02, request d: 20 to 25 of the fields that a job uses, and of those that it does not. They stand where document 01 has 8, of which it
 -- says: "Of a job 8 judges used fields, its place only after the start, and then too that others are 0."
-use Rattle.std.specs.Prelude.{ℕ, zero, suc, ◌+◌, Bool, true, false, not, ◌&&◌, ltb, eqb}
+use Rattle.std.specs.Prelude.{◌≡◌, ℕ, ◌+◌, Bool, true, false, not, ◌&&◌, ltb, eqb, Option, Result, Ok, Err}
 use Rattle.laws.specs.Bits.{pick}
-use Rattle.machine.specs.declared.Check.{Check}
-use Rattle.machine.specs.declared.Check.TheVariants.{Passed}
 use Rattle.machine.specs.declared.Syllable.{Syllable}
 use Rattle.machine.specs.declared.Syllable.TheVariants.{A, B, P}
+use Rattle.machine.specs.declared.Refusal.{Refusal}
 use Rattle.machine.specs.declared.Refusal.TheVariants.{EmptySyllable, BeyondWord, Overlap, WrongJob}
 use Rattle.machine.specs.declared.ResponseBit.{ResponseBit}
-use Rattle.machine.specs.Refusals.{◌else◌, refuse, bit_check, apart_check, care_check}
+use Rattle.machine.specs.Refusals.{Check, ◌else◌, refuse, bit_check, apart_check, care_check}
 use Rattle.job_plans.specs.declared.Span.{Span}
 use Rattle.job_plans.specs.declared.Job.{Job}
+use Rattle.job_plans.specs.declared.Kind.{Kind as Known}
+use Rattle.job_plans.specs.declared.Kind.TheVariants.{Greatest, Smallest, ScaledAdd, Product}
 
 -- a job's fields, in the image's order
 abbrev pub job : ℕ → ℕ → ℕ → ResponseBit → ResponseBit → Span → Span → Span → ℕ → ℕ → ℕ → ℕ → Job
 job kind key care x y a b p phase i j c =
     record { kind = kind; key = key; care = care; x = x; y = y; a = a; b = b; p = p; phase = phase; i = i; j = j; c = c }
 
+-- the held job: none, or one
+abbrev pub Held : Type 0
+Held = Option Job
+
 -- "kind (1 to 4 as in the table)"
 pub data Kind : Type 0 where
   greatest smallest scaledAdd product unknown : Kind
 
-abbrev pub kind_of : ℕ → Kind
+unfoldable pub kind_of : ℕ → Kind
 kind_of k = pick (eqb k 1) greatest (pick (eqb k 2) smallest (pick (eqb k 3) scaledAdd (pick (eqb k 4) product unknown)))
+
+abbrev pub named : Known → Kind
+named Greatest = greatest
+named Smallest = smallest
+named ScaledAdd = scaledAdd
+named Product = product
+
+-- the kind of that number, or 25: "unknown kind"
+abbrev pub IsKindOf : ℕ → Result Known Refusal → Type 0
+IsKindOf number (Ok kind) = kind_of number ≡ named kind
+IsKindOf number (Err why) = (kind_of number ≡ unknown) × (why ≡ WrongJob)
 
 -- what is said of extremes, of scaled adds, of products, and of a kind that isn't in the table, in this order
 abbrev pub by_kind : {A : Type 0} → Kind → A → A → A → A → A
@@ -52,7 +68,7 @@ overlap_check p name s = refuse (Overlap name) (overlaps p s)
 
 -- asked only if the field is used
 abbrev pub if_used : Bool → Check → Check
-if_used used c = pick used c Passed
+if_used used c = pick used c (Ok tt)
 
 -- Every job uses A and Y; x, b and p say whether it uses X, B and P.
 -- "lowest first", and of one number "A before B before P"; 23 and 24 of X and then Y

@@ -1,18 +1,15 @@
 -- Document 01, 'Jobs' and 'The image': a job's places: which are in the table, the first, and the one after a pulse.
 -- "Phase is the next pulse: 0 opening search, 1 trial search, 2 the pulse after it."
-use Rattle.std.specs.Prelude.{ℕ, zero, suc, ◌+◌, ◌-◌, Bool, true, false, not, ◌&&◌, ◌||◌, ltb, eqb}
+use Rattle.std.specs.Prelude.{ℕ, zero, suc, ◌+◌, ◌-◌, Bool, true, false, not, ◌&&◌, ◌||◌, ltb, eqb, Some, None}
 use Rattle.laws.specs.Bits.{pick}
-use Rattle.machine.specs.declared.Check.{Check}
 use Rattle.machine.specs.declared.Refusal.{Refusal}
 use Rattle.machine.specs.declared.Refusal.TheVariants.{WrongJob}
 use Rattle.machine.specs.declared.ResponseBit.{ResponseBit}
 use Rattle.machine.specs.Machine.{Machine}
-use Rattle.machine.specs.Refusals.{◌else◌, refuse, machine_check}
+use Rattle.machine.specs.Refusals.{Check, ◌else◌, refuse, machine_check}
 use Rattle.job_plans.specs.declared.Span.{Span}
 use Rattle.job_plans.specs.declared.Job.{Job}
-use Rattle.job_plans.specs.declared.Held.{Held}
-use Rattle.job_plans.specs.declared.Held.TheVariants.{Nothing, Holds}
-use Rattle.job_plans.specs.Fields.{job, Kind, kind_of, by_kind, used_check, unused_check}
+use Rattle.job_plans.specs.Fields.{job, Held, Kind, kind_of, by_kind, used_check, unused_check}
 
 -- ---- "A place outside the job's table is malformed."
 
@@ -52,8 +49,8 @@ abbrev pub none_held : Refusal
 none_held = WrongJob
 
 abbrev pub step_held_check : ℕ → Held → Check
-step_held_check n Nothing = refuse none_held true
-step_held_check n (Holds o) = held_check n o
+step_held_check n None = refuse none_held true
+step_held_check n (Some o) = held_check n o
 
 unfoldable pub step_check : Machine → Held → Check
 step_check m h = machine_check m else step_held_check m.width h
@@ -87,26 +84,26 @@ moved o phase i j = job o.kind o.key o.care o.x o.y o.a o.b o.p phase i j o.c
 
 -- extremes: "for each place from the top". "A job that has given its last pulse is no longer held".
 abbrev pub next_below : Job → ℕ → Held
-next_below o zero = Nothing
-next_below o (suc i) = Holds (moved o 1 i 0)
+next_below o zero = None
+next_below o (suc i) = Some (moved o 1 i 0)
 
 -- the others: "for place i from 0 below the smaller of the widths a and p"
 abbrev pub next_above : Job → Held
-next_above o = pick (ltb (o.i + 1) o.a.width && ltb (o.i + 1) o.p.width) (Holds (moved o 1 (o.i + 1) 0)) Nothing
+next_above o = pick (ltb (o.i + 1) o.a.width && ltb (o.i + 1) o.p.width) (Some (moved o 1 (o.i + 1) 0)) None
 
 -- "and within it j from 0 below b, with i+j below p"
 abbrev pub next_within : Job → Held
-next_within o = pick (ltb (o.j + 1) o.b.width && ltb (o.i + (o.j + 1)) o.p.width) (Holds (moved o 1 o.i (o.j + 1))) (next_above o)
+next_within o = pick (ltb (o.j + 1) o.b.width && ltb (o.i + (o.j + 1)) o.p.width) (Some (moved o 1 o.i (o.j + 1))) (next_above o)
 
 -- after the trial search, which counted m: "and, if any matched, ..." for extremes
 abbrev pub after_trial : Kind → Job → ℕ → Held
-after_trial k o m = by_kind k (pick (eqb m 0) (next_below o o.i) (Holds (moved o 2 o.i 0)))
-    (Holds (moved o 2 o.i o.j)) (Holds (moved o 2 o.i o.j)) Nothing
+after_trial k o m = by_kind k (pick (eqb m 0) (next_below o o.i) (Some (moved o 2 o.i 0)))
+    (Some (moved o 2 o.i o.j)) (Some (moved o 2 o.i o.j)) None
 
 -- after the pulse after it
 abbrev pub after_second : Kind → Job → Held
-after_second k o = by_kind k (next_below o o.i) (next_above o) (next_within o) Nothing
+after_second k o = by_kind k (next_below o o.i) (next_above o) (next_within o) None
 
 unfoldable pub next : Job → ℕ → Held
-next o m = pick (eqb o.phase 0) (Holds (moved o 1 o.i 0))
+next o m = pick (eqb o.phase 0) (Some (moved o 1 o.i 0))
     (pick (eqb o.phase 1) (after_trial (kind_of o.kind) o m) (after_second (kind_of o.kind) o))
