@@ -7,14 +7,12 @@ use mathlib.Core.List.{List}
 use native.Mathlib.Omega.{arith}
 use lib.ListN.{length, get_or, drop}
 use Rattle.laws.specs.Bits.{bit}
+use Rattle.std.specs.Prelude.{Some, Ok, Err}
 use Rattle.machine.specs.declared.WordSlice.{WordSlice}
 use Rattle.machine.specs.declared.ResponseBit.{ResponseBit}
-use Rattle.machine.specs.declared.Found.TheVariants.{At}
-use Rattle.machine.specs.declared.Check.{Check}
-use Rattle.machine.specs.declared.Check.TheVariants.{Passed, Refused}
 use Rattle.machine.specs.declared.Refusal.{Refusal}
 use Rattle.machine.specs.Machine.{Machine, machine, response_bits}
-use Rattle.machine.specs.Refusals.{change_by}
+use Rattle.machine.specs.Refusals.{Check, change_by}
 use Rattle.rounds.specs.declared.Verdict.{Verdict}
 use Rattle.rounds.specs.declared.Verdict.TheVariants.{Done, Faulty}
 use Rattle.rounds.specs.Round.{shown, answered, answered_at, round_check, answer_check, after_answer}
@@ -69,13 +67,13 @@ handed_out {x} {f} {before} {after} {vs} t =
 
 -- ---- with it: a refused answer changes nothing, and a round whose bits are fit always goes on
 
-pub refused_nothing : (x f : ResponseBit) (k : WordSlice) (v : Verdict) (m : Machine) (r : Refusal) → answer_check x f k m ≡ Refused r → after_answer x f k v m ≡ m
+pub refused_nothing : (x f : ResponseBit) (k : WordSlice) (v : Verdict) (m : Machine) (r : Refusal) → answer_check x f k m ≡ Err r → after_answer x f k v m ≡ m
 unfolding after_answer
 refused_nothing x f k v m r h = ap (λ (c : Check). change_by c (answered_at x f k v m) m) h
 
 -- the word that show gives is accepted, for either verdict, after any accepted answers
-pub goes_on : {x f : ResponseBit} {before after : Machine} {vs : List Verdict} → round_check x f before ≡ Passed → Answers x f before vs after
-    → (k : WordSlice) → shown x after ≡ At k → answer_check x f k after ≡ Passed
+pub goes_on : {x f : ResponseBit} {before after : Machine} {vs : List Verdict} → round_check x f before ≡ Ok tt → Answers x f before vs after
+    → (k : WordSlice) → shown x after ≡ Some k → answer_check x f k after ≡ Ok tt
 goes_on {x} {f} {before} {after} h t k s =
     let w = run t in
     acceptable x f k after

@@ -2,7 +2,7 @@
 use Prim.Native.Nat.{ℕ, zero, suc, ◌+◌, ◌-◌, ◌*◌, ◌/◌, ◌%◌, ◌^◌, ◌<◌}
 use mathlib.Core.Path.{◌≡◌, refl, sym, ap, ap₂, ◌∙◌}
 use mathlib.Core.Bool.{Bool, true, false, ◌||◌}
-use mathlib.Core.Logic.{◌⊎◌, ⊎_elim}
+use mathlib.Core.Logic.{⊎_elim}
 use mathlib.Core.List.{List, [], ◌∷◌}
 use native.Mathlib.Nat.{mod-eq_of_lt, pow-suc}
 use native.Mathlib.Omega.{arith}
@@ -13,9 +13,9 @@ use borrow.Author.Tests.{eq-eqb, ne_eqb}
 use Rattle.laws.specs.Bits.{bit, number, every, pick, digit}
 use Rattle.laws.proofs.Digits.{tri, div_suc, bit_lt}
 use Rattle.laws.proofs.Bits.{digit_at, number_like, number_lt, every_at, every_all, low_bit, bit_none}
+use Rattle.std.specs.Prelude.{Option, Some}
+use Rattle.machine.specs.declared.WordSlice.{WordSlice}
 use Rattle.machine.specs.declared.ResponseBit.{ResponseBit}
-use Rattle.machine.specs.declared.Found.{Found}
-use Rattle.machine.specs.declared.Found.TheVariants.{At}
 use Rattle.machine.specs.Machine.{response_bits, selected}
 use Rattle.machine.specs.Resolution.{lowest}
 use Rattle.machine.specs.Search.{marked}
@@ -83,7 +83,7 @@ selected_has x r h =
 lowest_like : (f g : ℕ → Bool) (k : ℕ) (rs : List ℕ) → ((r : ℕ) → f r ≡ g r) → lowest f k rs ≡ lowest g k rs
 unfolding lowest
 lowest_like f g k [] h = refl
-lowest_like f g k (r ∷ rs) h = ap₂ (λ (t : Bool) (s : Found). pick t (At (record { 0 = k })) s) (h r) (lowest_like f g (suc k) rs h)
+lowest_like f g k (r ∷ rs) h = ap₂ (λ (t : Bool) (s : Option WordSlice). pick t (Some (record { 0 = k })) s) (h r) (lowest_like f g (suc k) rs h)
 
 pub lowest_mask : (x : ResponseBit) (k : ℕ) (rs : List ℕ) → x.0 < response_bits
     → lowest (selected (1 * 2 ^ x.0 % 2 ^ response_bits) (1 * 2 ^ x.0 % 2 ^ response_bits)) k rs ≡ lowest (has x) k rs

@@ -6,9 +6,9 @@ use mathlib.Core.List.{List, [], ◌∷◌}
 use native.Mathlib.Omega.{arith}
 use lib.ListN.{length, get_or, drop, set}
 use Rattle.laws.specs.Bits.{pick}
+use Rattle.std.specs.Prelude.{Some}
 use Rattle.machine.specs.declared.WordSlice.{WordSlice}
 use Rattle.machine.specs.declared.ResponseBit.{ResponseBit}
-use Rattle.machine.specs.declared.Found.TheVariants.{At}
 use Rattle.machine.specs.Resolution.{lowest}
 use Rattle.resolver.specs.Answers.{LowestAt}
 use Rattle.rounds.specs.Round.{has}
@@ -21,7 +21,7 @@ first_lowest x k [] = refl
 first_lowest x k (r ∷ rs) = go (has x r) (first_lowest x (suc k) rs)
   where
     go : (b : Bool) → lowest (has x) (suc k) rs ≡ first_of (numbers_with x (suc k) rs)
-        → pick b (At (record { 0 = k })) (lowest (has x) (suc k) rs) ≡ first_of (pick b (k ∷ numbers_with x (suc k) rs) (numbers_with x (suc k) rs))
+        → pick b (Some (record { 0 = k })) (lowest (has x) (suc k) rs) ≡ first_of (pick b (k ∷ numbers_with x (suc k) rs) (numbers_with x (suc k) rs))
     go true h = refl
     go false h = h
 
@@ -36,7 +36,7 @@ first_off x k (suc i) b (r ∷ rs) l h = rw (l.none_lower 0 (omega arith)) (firs
     behind l = record { within = omega (arith, l.within); passes = l.passes; none_lower = λ j g. l.none_lower (suc j) (omega arith) }
 
 -- the place of a list's first, where there is one
-pub first_of_rest : (k : WordSlice) (n : ℕ) (ks : List ℕ) → first_of (drop n ks) ≡ At k → (n < length ks) × (get_or ks n 0 ≡ k.0)
+pub first_of_rest : (k : WordSlice) (n : ℕ) (ks : List ℕ) → first_of (drop n ks) ≡ Some k → (n < length ks) × (get_or ks n 0 ≡ k.0)
 first_of_rest k zero [] h = absurd (let z : ◌≡◌ {A = ℕ} 0 1 = cc in omega arith)
 first_of_rest k zero (j ∷ ks) h =
     let s : ◌≡◌ {A = WordSlice} (record { 0 = j }) k = cc in (omega arith, ap (λ (w : WordSlice). w.0) s)

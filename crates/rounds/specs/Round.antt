@@ -1,22 +1,15 @@
 -- Document 01, 'The hand-out round': show and answer.
-use Rattle.std.specs.Prelude.{◌≡◌, ℕ, ◌<◌, Bool, true, not, eqb, set}
+use Rattle.std.specs.Prelude.{◌≡◌, ℕ, ◌<◌, Bool, true, not, eqb, set, Option, Some, None, Result, Ok, Err}
 use Rattle.laws.specs.Bits.{bit, number, pick}
 use Rattle.machine.specs.declared.WordSlice.{WordSlice}
 use Rattle.machine.specs.declared.ResponseBit.{ResponseBit}
-use Rattle.machine.specs.declared.Found.{Found}
-use Rattle.machine.specs.declared.Found.TheVariants.{At, Nothing}
+use Rattle.machine.specs.declared.Refusal.{Refusal}
 use Rattle.machine.specs.declared.Refusal.TheVariants.{NotShown}
-use Rattle.machine.specs.declared.Check.{Check}
 use Rattle.machine.specs.Machine.{Machine, machine, response_bits, response}
 use Rattle.machine.specs.Resolution.{lowest}
-use Rattle.machine.specs.Refusals.{machine_check, bit_check, apart_check, ◌else◌, refuse, answer_by, change_by, tells}
-use Rattle.resolver.specs.declared.Resolved.{Resolved}
-use Rattle.resolver.specs.declared.Resolved.TheVariants as resolved
-use Rattle.resolver.specs.Answers.{as_resolved}
+use Rattle.machine.specs.Refusals.{Check, machine_check, bit_check, apart_check, ◌else◌, refuse, answer_by, change_by, tells}
 use Rattle.rounds.specs.declared.Verdict.{Verdict}
 use Rattle.rounds.specs.declared.Verdict.TheVariants.{Done, Faulty}
-use Rattle.rounds.specs.declared.Reply.{Reply}
-use Rattle.rounds.specs.declared.Reply.TheVariants as reply
 
 -- ---- show
 
@@ -25,7 +18,7 @@ abbrev pub has : ResponseBit → ℕ → Bool
 has x r = eqb (bit r x.0) 1
 
 -- "Show answers the lowest word with response bit X, or none"
-unfoldable pub shown : ResponseBit → Machine → Found
+unfoldable pub shown : ResponseBit → Machine → Option WordSlice
 shown x m = lowest (has x) 0 m.responses
 
 -- ---- answer
@@ -53,9 +46,9 @@ unfoldable pub pair_check : ResponseBit → ResponseBit → Check
 pair_check x f = bit_check x else bit_check f else apart_check x f
 
 -- 11: "answer for a word other than the one show would give now"; so for every word if show gives none
-abbrev pub other_than : WordSlice → Found → Bool
-other_than k (At j) = not (eqb k.0 j.0)
-other_than k Nothing = true
+abbrev pub other_than : WordSlice → Option WordSlice → Bool
+other_than k (Some j) = not (eqb k.0 j.0)
+other_than k None = true
 
 unfoldable pub answer_check : ResponseBit → ResponseBit → WordSlice → Machine → Check
 answer_check x f k m = machine_check m else pair_check x f else refuse NotShown (other_than k (shown x m))
@@ -66,11 +59,11 @@ round_check x f m = machine_check m else pair_check x f
 
 -- ---- what the calls answer, and what stands in the machine afterwards
 
-unfoldable pub show_of : ResponseBit → Machine → Resolved
-show_of x m = answer_by (show_check x m) resolved.Refused (as_resolved (shown x m))
+unfoldable pub show_of : ResponseBit → Machine → Result (Option WordSlice) Refusal
+show_of x m = answer_by (show_check x m) (shown x m)
 
-unfoldable pub reply_of : ResponseBit → ResponseBit → WordSlice → Machine → Reply
-reply_of x f k m = answer_by (answer_check x f k m) reply.Refused reply.Taken
+unfoldable pub reply_of : ResponseBit → ResponseBit → WordSlice → Machine → Check
+reply_of x f k m = answer_check x f k m
 
 -- "Nothing lent changes" if the answer is turned down
 unfoldable pub after_answer : ResponseBit → ResponseBit → WordSlice → Verdict → Machine → Machine
@@ -78,9 +71,9 @@ after_answer x f k v m = change_by (answer_check x f k m) (answered_at x f k v m
 
 -- ---- each reply's number and value; "other answer fields are 0"
 
-abbrev pub told : Reply → ℕ × ℕ
-told reply.Taken = (0, 0)
-told (reply.Refused r) = tells r
+abbrev pub told : Check → ℕ × ℕ
+told (Ok tt) = (0, 0)
+told (Err r) = tells r
 
 -- ---- words of the theorems
 
