@@ -15,10 +15,8 @@ use Rattle.laws.proofs.Bits.{every_at, and_left}
 use Rattle.machine.specs.declared.Panel.{Panel}
 use Rattle.machine.specs.declared.Status.{Status}
 use Rattle.machine.specs.declared.Status.TheVariants.{Equal}
-use Rattle.machine.specs.declared.Refusal.{Refusal}
 use Rattle.machine.specs.declared.Refusal.TheVariants.{NoSuchWord}
-use Rattle.machine.specs.declared.Check.{Check}
-use Rattle.machine.specs.declared.Check.TheVariants as check
+use Rattle.std.specs.Prelude.{Ok}
 use Rattle.machine.specs.declared.WordSlice.{WordSlice}
 use Rattle.machine.specs.Machine.{Machine, response_bits, Syllable, is_top, down_from, syllables, selected}
 use Rattle.machine.specs.Search.{one_code, one_setting, compared_only, unmixed, satisfied}
@@ -29,37 +27,36 @@ use Rattle.machine.proofs.Cells.{accepted_satisfied}
 use Rattle.machine.proofs.Refusals as checks
 use Rattle.machine.proofs.Refusals.{else_passed, not_refused, or_left, or_right}
 use Rattle.chains.specs.Walks.{here}
-use Rattle.explainer.specs.declared.Explained.{Explained}
-use Rattle.explainer.specs.declared.Explained.TheVariants as answer
+use Rattle.explainer.specs.declared.Reason.{Reason}
+use Rattle.explainer.specs.declared.Reason.TheVariants as answer
 use Rattle.explainer.specs.Walks.{first_of, at_bit, at_cell, at_top, selection}
 use Rattle.explainer.specs.Truth.{is_matched}
 use Rattle.explainer.proofs.Selecting.{never, every_not, does_differ, same_there}
-use Rattle.explainer.specs.Reasons.{differs, lowest_of, not_selected, cell_at, is_against, down_through, in_syllable, unsatisfied, topmost, reason, searching, explain_check, reason_at, explained, told}
+use Rattle.explainer.specs.Reasons.{differs, lowest_of, not_selected, cell_at, is_against, down_through, in_syllable, unsatisfied, topmost, reason, searching, explain_check, told}
 
 -- ---- the first that is no "matched"
 
-pub first_assoc : (a b c : Explained) → first_of (first_of a b) c ≡ first_of a (first_of b c)
+pub first_assoc : (a b c : Reason) → first_of (first_of a b) c ≡ first_of a (first_of b c)
 first_assoc a b c = go (is_matched a) refl
   where
     go : (t : Bool) → is_matched a ≡ t → first_of (pick t b a) c ≡ pick t (first_of b c) a
     go true e = refl
     go false e = rw e
 
-pub first_none : (a : Explained) → first_of a answer.Matched ≡ a
+pub first_none : (a : Reason) → first_of a answer.Matched ≡ a
 first_none answer.Matched = refl
 first_none (answer.NotSelected x) = refl
 first_none (answer.Against t b) = refl
 first_none (answer.EqualToTheBottom t) = refl
-first_none (answer.Refused why) = refl
 
 -- a walk: what is found so far, and then what is still to come, is the whole
-module _ (whole rest later g here g' : Explained) where
+module _ (whole rest later g here g' : Reason) where
   pub walk_step : first_of g rest ≡ whole → g' ≡ first_of g here → first_of here later ≡ rest → first_of g' later ≡ whole
-  walk_step h e f = ap (λ (x : Explained). first_of x later) e ∙ first_assoc g here later ∙ ap (first_of g) f ∙ h
+  walk_step h e f = ap (λ (x : Reason). first_of x later) e ∙ first_assoc g here later ∙ ap (first_of g) f ∙ h
 
 -- ---- response bits from bit i up
 
-unfoldable pub from_bit : Panel → ℕ → ℕ → ℕ → Explained
+unfoldable pub from_bit : Panel → ℕ → ℕ → ℕ → Reason
 from_bit p r i zero = answer.Matched
 from_bit p r i (suc m) = first_of (at_bit p r i) (from_bit p r (suc i) m)
 
@@ -91,22 +88,22 @@ module _ (p : Panel) (r : ℕ) where
   pub bits_start : first_of answer.Matched (from_bit p r 0 response_bits) ≡ selection p r
   bits_start = all_bits
 
-  pub bits_step : (i : ℕ) (g here g' : Explained) → i < response_bits → first_of g (from_bit p r i (response_bits - i)) ≡ selection p r → g' ≡ first_of g here → here ≡ at_bit p r i
+  pub bits_step : (i : ℕ) (g here g' : Reason) → i < response_bits → first_of g (from_bit p r i (response_bits - i)) ≡ selection p r → g' ≡ first_of g here → here ≡ at_bit p r i
       → first_of g' (from_bit p r (i + 1) (response_bits - (i + 1))) ≡ selection p r
   unfolding from_bit
   bits_step i g here g' l h e f =
       let z : response_bits - i ≡ suc (response_bits - suc i) = omega arith in
       rw (add-one i) (walk_step (selection p r) (from_bit p r i (response_bits - i)) (from_bit p r (suc i) (response_bits - suc i)) g here g' h e
-      (ap (λ (x : Explained). first_of x (from_bit p r (suc i) (response_bits - suc i))) f ∙ sym (ap (from_bit p r i) z)))
+      (ap (λ (x : Reason). first_of x (from_bit p r (suc i) (response_bits - suc i))) f ∙ sym (ap (from_bit p r i) z)))
 
-  pub bits_done : (i : ℕ) (g : Explained) → response_bits ≤ i → first_of g (from_bit p r i (response_bits - i)) ≡ selection p r → g ≡ selection p r
+  pub bits_done : (i : ℕ) (g : Reason) → response_bits ≤ i → first_of g (from_bit p r i (response_bits - i)) ≡ selection p r → g ≡ selection p r
   unfolding from_bit
   bits_done i g l h = let z : response_bits - i ≡ 0 = omega arith in sym (first_none g) ∙ (rw z at h)
 
 -- ---- down through a syllable
 
-module _ (p : Panel) (w t : ℕ) (y : Syllable) (whole : Explained) where
-  pub cells_step : (j : ℕ) (s u : Status) (g here g' : Explained) → 0 < j → first_of g (down_through p w t y j s) ≡ whole → u ≡ cell_at p w (y.low + (j - 1)) s
+module _ (p : Panel) (w t : ℕ) (y : Syllable) (whole : Reason) where
+  pub cells_step : (j : ℕ) (s u : Status) (g here g' : Reason) → 0 < j → first_of g (down_through p w t y j s) ≡ whole → u ≡ cell_at p w (y.low + (j - 1)) s
       → here ≡ at_cell u t (y.low + (j - 1)) → g' ≡ first_of g here → first_of g' (down_through p w t y (j - 1) u) ≡ whole
   unfolding down_through
   cells_step zero s u g here g' l h e f k = absurd (omega arith)
@@ -115,14 +112,14 @@ module _ (p : Panel) (w t : ℕ) (y : Syllable) (whole : Explained) where
       let q : u ≡ cell_at p w (y.low + j) s = e ∙ ap (λ (i : ℕ). cell_at p w (y.low + i) s) z in
       let o : here ≡ at_cell u t (y.low + j) = f ∙ ap (λ (i : ℕ). at_cell u t (y.low + i)) z in
       rw z (walk_step whole (down_through p w t y (suc j) s) (down_through p w t y j u) g here g' h k
-      (ap (λ (x : Explained). first_of x (down_through p w t y j u)) o ∙ one (is_against u) (down_through p w t y j u)
+      (ap (λ (x : Reason). first_of x (down_through p w t y j u)) o ∙ one (is_against u) (down_through p w t y j u)
       ∙ ap (λ (x : Status). pick (is_against x) (answer.Against (record { 0 = t }) (record { 0 = y.low + j })) (down_through p w t y j x)) q))
     where
-      one : (b : Bool) (d : Explained) → first_of (pick b (answer.Against (record { 0 = t }) (record { 0 = y.low + j })) answer.Matched) d ≡ pick b (answer.Against (record { 0 = t }) (record { 0 = y.low + j })) d
+      one : (b : Bool) (d : Reason) → first_of (pick b (answer.Against (record { 0 = t }) (record { 0 = y.low + j })) answer.Matched) d ≡ pick b (answer.Against (record { 0 = t }) (record { 0 = y.low + j })) d
       one true d = refl
       one false d = refl
 
-  pub cells_done : (j : ℕ) (s : Status) (g : Explained) → j ≤ 0 → first_of g (down_through p w t y j s) ≡ whole → first_of g (answer.EqualToTheBottom (record { 0 = t })) ≡ whole
+  pub cells_done : (j : ℕ) (s : Status) (g : Reason) → j ≤ 0 → first_of g (down_through p w t y j s) ≡ whole → first_of g (answer.EqualToTheBottom (record { 0 = t })) ≡ whole
   unfolding down_through
   cells_done zero s g l h = h
   cells_done (suc j) s g l h = absurd (omega arith)
@@ -133,7 +130,7 @@ unfolding down_through
 down_says p w t y zero s = refl
 down_says p w t y (suc j) s = go (is_against (cell_at p w (y.low + j) s)) (down_through p w t y j (cell_at p w (y.low + j) s)) (down_says p w t y j (cell_at p w (y.low + j) s))
   where
-    go : (b : Bool) (e : Explained) → is_matched e ≡ false → is_matched (pick b (answer.Against (record { 0 = t }) (record { 0 = y.low + j })) e) ≡ false
+    go : (b : Bool) (e : Reason) → is_matched e ≡ false → is_matched (pick b (answer.Against (record { 0 = t }) (record { 0 = y.low + j })) e) ≡ false
     go true e h = refl
     go false e h = h
 
@@ -151,7 +148,7 @@ module _ (n : ℕ) (p : Panel) (w : ℕ) (fair : all (unmixed p) (syllables n p.
       go false e = refl
 
   -- one syllable and those below it
-  and_below : (t : ℕ) (rest : Explained) → t < n → first_of (at_top n p w t) rest ≡ pick (unsatisfied n p w t) (in_syllable p w t) rest
+  and_below : (t : ℕ) (rest : Reason) → t < n → first_of (at_top n p w t) rest ≡ pick (unsatisfied n p w t) (in_syllable p w t) rest
   unfolding at_top
   and_below t rest l = go (here (accepted p w) n p.sdr t) (as_cells t l)
     where
@@ -159,16 +156,16 @@ module _ (n : ℕ) (p : Panel) (w : ℕ) (fair : all (unmixed p) (syllables n p.
       go true e = rw e
       go false e = rw (e, down_says p w t (down_from p.sdr t) (down_from p.sdr t).width Equal)
 
-  pub tops_step : (t : ℕ) (g here g' : Explained) → 0 < t → t ≤ n → first_of g (topmost n p w t) ≡ topmost n p w n → here ≡ at_top n p w (t - 1) → g' ≡ first_of g here
+  pub tops_step : (t : ℕ) (g here g' : Reason) → 0 < t → t ≤ n → first_of g (topmost n p w t) ≡ topmost n p w n → here ≡ at_top n p w (t - 1) → g' ≡ first_of g here
       → first_of g' (topmost n p w (t - 1)) ≡ topmost n p w n
   unfolding topmost
   tops_step zero g here g' l k h e f = absurd (omega arith)
   tops_step (suc t) g here g' l k h e f =
       let z : suc t - 1 ≡ t = omega arith in
       rw z (walk_step (topmost n p w n) (topmost n p w (suc t)) (topmost n p w t) g here g' h f
-      (ap (λ (x : Explained). first_of x (topmost n p w t)) (e ∙ ap (at_top n p w) z) ∙ and_below t (topmost n p w t) (omega arith)))
+      (ap (λ (x : Reason). first_of x (topmost n p w t)) (e ∙ ap (at_top n p w) z) ∙ and_below t (topmost n p w t) (omega arith)))
 
-  pub tops_done : (t : ℕ) (g : Explained) → t ≤ 0 → first_of g (topmost n p w t) ≡ topmost n p w n → g ≡ topmost n p w n
+  pub tops_done : (t : ℕ) (g : Reason) → t ≤ 0 → first_of g (topmost n p w t) ≡ topmost n p w n → g ≡ topmost n p w n
   unfolding topmost
   tops_done zero g l h = sym (first_none g) ∙ h
   tops_done (suc t) g l h = absurd (omega arith)
@@ -185,69 +182,43 @@ both_said n p w r = go (selected p.key p.care r)
 
 -- ---- the call
 
-module _ (m : Machine) (p : Panel) (k : WordSlice) (c : Check) (is : c ≡ explain_check m p k) where
-  pub turned_down : (r : Refusal) → c ≡ check.Refused r → answer.Refused r ≡ explained m p k
-  unfolding explained
-  turned_down r h = rw (sym is ∙ h)
+module _ (m : Machine) (p : Panel) (k : WordSlice) (h : explain_check m p k ≡ Ok tt) where
+  both : (pulse_check m p searching ≡ Ok tt) × (leb (length m.words) k.0 ≡ false)
+  unfolding explain_check
+  both =
+      let q = else_passed (pulse_check m p searching) _ h in
+      (q.0, not_refused NoSuchWord _ q.1)
 
-  pub gone_on : (r : Explained) → c ≡ check.Passed → r ≡ reason_at m p k → r ≡ explained m p k
-  unfolding explained
-  gone_on r h e = rw (sym is ∙ h) e
+  pub number_within : k.0 < length m.words
+  number_within = leb-false (length m.words) k.0 both.1
 
-  module _ (h : c ≡ check.Passed) where
-    both : (pulse_check m p searching ≡ check.Passed) × (leb (length m.words) k.0 ≡ false)
-    unfolding explain_check
-    both =
-        let q = else_passed (pulse_check m p searching) _ (sym is ∙ h) in
-        (q.0, not_refused NoSuchWord _ q.1)
+  pub number_small : k.0 < 1024
+  unfolding bad_size
+  number_small =
+      let n = length m.words in
+      let q = or_right (eqb n 0) _ (checks.clean m p searching both.0).sound.size in
+      omega (arith, number_within, ltb-false 1024 n (or_left (ltb 1024 n) _ q))
 
-    pub number_within : k.0 < length m.words
-    number_within = leb-false (length m.words) k.0 both.1
+  pub response_within : k.0 < length m.responses
+  response_within = rw (checks.size_same _ _ (checks.clean m p searching both.0).sound.size) number_within
 
-    pub number_small : k.0 < 1024
-    unfolding bad_size
-    number_small =
-        let n = length m.words in
-        let q = or_right (eqb n 0) _ (checks.clean m p searching both.0).sound.size in
-        omega (arith, number_within, ltb-false 1024 n (or_left (ltb 1024 n) _ q))
+  pub narrow : m.width ≤ 64
+  narrow = checks.width_le m.width (checks.clean m p searching both.0).sound.width
 
-    pub response_within : k.0 < length m.responses
-    response_within = rw (checks.size_same _ _ (checks.clean m p searching both.0).sound.size) number_within
-
-    pub narrow : m.width ≤ 64
-    narrow = checks.width_le m.width (checks.clean m p searching both.0).sound.width
-
-    pub unmixed_all : all (unmixed p) (syllables m.width p.sdr) ≡ true
-    unfolding bad_codes
-    unmixed_all = not-false _ (checks.clean m p searching both.0).codes
+  pub unmixed_all : all (unmixed p) (syllables m.width p.sdr) ≡ true
+  unfolding bad_codes
+  unmixed_all = not-false _ (checks.clean m p searching both.0).codes
 
 -- ---- a reason is no refusal
 
-abbrev pub number : Explained → ℕ × ℕ
-number e = ((told e).refusal, (told e).also)
+abbrev pub number : Reason → ℕ × ℕ
+number e = ((told (Ok e)).refusal, (told (Ok e)).also)
 
-down_answers : (p : Panel) (w t : ℕ) (y : Syllable) (j : ℕ) (s : Status) → number (down_through p w t y j s) ≡ (0, 0)
-unfolding down_through
-down_answers p w t y zero s = refl
-down_answers p w t y (suc j) s = go (is_against (cell_at p w (y.low + j) s)) (down_through p w t y j (cell_at p w (y.low + j) s)) (down_answers p w t y j (cell_at p w (y.low + j) s))
-  where
-    go : (b : Bool) (e : Explained) → number e ≡ (0, 0) → number (pick b (answer.Against (record { 0 = t }) (record { 0 = y.low + j })) e) ≡ (0, 0)
-    go true e h = refl
-    go false e h = h
-
-top_answers : (n : ℕ) (p : Panel) (w t : ℕ) → number (topmost n p w t) ≡ (0, 0)
-unfolding topmost
-top_answers n p w zero = refl
-top_answers n p w (suc t) = go (unsatisfied n p w t) (topmost n p w t) (top_answers n p w t)
-  where
-    go : (b : Bool) (e : Explained) → number e ≡ (0, 0) → number (pick b (in_syllable p w t) e) ≡ (0, 0)
-    go true e h = down_answers p w t (down_from p.sdr t) (down_from p.sdr t).width Equal
-    go false e h = h
+none : (e : Reason) → number e ≡ (0, 0)
+none answer.Matched = refl
+none (answer.NotSelected x) = refl
+none (answer.Against t b) = refl
+none (answer.EqualToTheBottom t) = refl
 
 pub reason_answers : (n : ℕ) (p : Panel) (w r : ℕ) → number (reason n p w r) ≡ (0, 0)
-unfolding reason
-reason_answers n p w r = go (selected p.key p.care r)
-  where
-    go : (b : Bool) → number (pick b (topmost n p w n) (not_selected p r)) ≡ (0, 0)
-    go true = top_answers n p w n
-    go false = refl
+reason_answers n p w r = none (reason n p w r)

@@ -19,7 +19,7 @@ use Rattle.machine.specs.Cells.{wants, accepted}
 use Rattle.machine.proofs.Machine.{bottom_le, all_down, all_up}
 use Rattle.machine.proofs.Cells.{accepted_satisfied}
 use Rattle.machine.proofs.Codes.{one_code_lem, one_setting_lem, unset_there}
-use Rattle.explainer.specs.declared.Explained.TheVariants as answer
+use Rattle.explainer.specs.declared.Reason.TheVariants as answer
 use Rattle.explainer.specs.Reasons.{cell_at, is_against, down_through, in_syllable, unsatisfied, topmost, not_selected, reason}
 use Rattle.explainer.specs.Truth.{Topmost, status_at, SettledAgainst, NoDifference, TrueOf}
 use Rattle.explainer.proofs.Selecting.{never, every_not, unselected}

@@ -1,20 +1,20 @@
 -- Document 02, request e: "For a machine, a panel and a word number, answer: matched; or not selected, with the lowest response bit that differs; or the
 -- topmost syllable not satisfied, with the bit where it was settled against, or "equal to the bottom" when larger or smaller found no difference."
-use Rattle.std.specs.Prelude.{ℕ, zero, suc, ◌+◌, Bool, true, false, not, ◌&&◌, leb, eqb, length, get_or}
+use Rattle.std.specs.Prelude.{ℕ, zero, suc, ◌+◌, Bool, true, false, not, ◌&&◌, leb, eqb, length, get_or, Result, Ok, Err}
 use Rattle.laws.specs.Bits.{bit, pick}
 use Rattle.machine.specs.declared.Panel.{Panel}
 use Rattle.machine.specs.declared.Lines.{Lines}
 use Rattle.machine.specs.declared.WordSlice.{WordSlice}
 use Rattle.machine.specs.declared.Status.{Status}
 use Rattle.machine.specs.declared.Status.TheVariants as status
+use Rattle.machine.specs.declared.Refusal.{Refusal}
 use Rattle.machine.specs.declared.Refusal.TheVariants.{NoSuchWord}
-use Rattle.machine.specs.declared.Check.{Check}
 use Rattle.machine.specs.Machine.{Machine, response_bits, Syllable, is_top, down_from, selected}
 use Rattle.machine.specs.Search.{code_at, satisfied}
 use Rattle.machine.specs.Cells.{cell}
-use Rattle.machine.specs.Refusals.{◌else◌, refuse, pulse_check, answer_by, number_of, also_answers}
-use Rattle.explainer.specs.declared.Explained.{Explained}
-use Rattle.explainer.specs.declared.Explained.TheVariants.{Matched, NotSelected, Against, EqualToTheBottom, Refused}
+use Rattle.machine.specs.Refusals.{◌else◌, Check, refuse, pulse_check, answer_by, number_of, also_answers}
+use Rattle.explainer.specs.declared.Reason.{Reason}
+use Rattle.explainer.specs.declared.Reason.TheVariants.{Matched, NotSelected, Against, EqualToTheBottom}
 
 -- ---- "not selected, with the lowest response bit that differs"
 
@@ -27,7 +27,7 @@ unfoldable pub lowest_of : (ℕ → Bool) → ℕ → ℕ → ℕ
 lowest_of test i zero = i
 lowest_of test i (suc m) = pick (test i) i (lowest_of test (suc i) m)
 
-abbrev pub not_selected : Panel → ℕ → Explained
+abbrev pub not_selected : Panel → ℕ → Reason
 not_selected p r = NotSelected (record { 0 = lowest_of (differs p r) 0 response_bits })
 
 -- ---- "with the bit where it was settled against, or "equal to the bottom""
@@ -42,13 +42,13 @@ is_against status.For = false
 is_against status.Against = true
 
 -- down the j lowest bits of syllable y, whose top bit is bit t, with the status that comes from above
-unfoldable pub down_through : Panel → ℕ → ℕ → Syllable → ℕ → Status → Explained
+unfoldable pub down_through : Panel → ℕ → ℕ → Syllable → ℕ → Status → Reason
 down_through p w t y zero s = EqualToTheBottom (record { 0 = t })
 down_through p w t y (suc j) s = let passed = cell_at p w (y.low + j) s in
     pick (is_against passed) (Against (record { 0 = t }) (record { 0 = y.low + j })) (down_through p w t y j passed)
 
 -- the syllable whose top bit is bit t; 01: "It starts equal."
-abbrev pub in_syllable : Panel → ℕ → ℕ → Explained
+abbrev pub in_syllable : Panel → ℕ → ℕ → Reason
 in_syllable p w t = let y = down_from p.sdr t in down_through p w t y y.width status.Equal
 
 -- ---- "the topmost syllable not satisfied"
@@ -57,12 +57,12 @@ abbrev pub unsatisfied : ℕ → Panel → ℕ → ℕ → Bool
 unsatisfied n p w t = is_top n p.sdr t && not (satisfied p w (down_from p.sdr t))
 
 -- of those whose top bit is below bit t the topmost; "matched" where each of them is satisfied
-unfoldable pub topmost : ℕ → Panel → ℕ → ℕ → Explained
+unfoldable pub topmost : ℕ → Panel → ℕ → ℕ → Reason
 topmost n p w zero = Matched
 topmost n p w (suc t) = pick (unsatisfied n p w t) (in_syllable p w t) (topmost n p w t)
 
 -- a word of n bits and its response
-unfoldable pub reason : ℕ → Panel → ℕ → ℕ → Explained
+unfoldable pub reason : ℕ → Panel → ℕ → ℕ → Reason
 reason n p w r = pick (selected p.key p.care r) (topmost n p w n) (not_selected p r)
 
 -- ---- the call
@@ -75,11 +75,11 @@ searching = record { search = true; read = false; write = false; add = false; mu
 unfoldable pub explain_check : Machine → Panel → WordSlice → Check
 explain_check m p k = pulse_check m p searching else refuse NoSuchWord (leb (length m.words) k.0)
 
-abbrev pub reason_at : Machine → Panel → WordSlice → Explained
+abbrev pub reason_at : Machine → Panel → WordSlice → Reason
 reason_at m p k = reason m.width p (get_or m.words k.0 0) (get_or m.responses k.0 0)
 
-unfoldable pub explained : Machine → Panel → WordSlice → Explained
-explained m p k = answer_by (explain_check m p k) Refused (reason_at m p k)
+unfoldable pub explained : Machine → Panel → WordSlice → Result Reason Refusal
+explained m p k = answer_by (explain_check m p k) (reason_at m p k)
 
 -- ---- each answer's number and values; 01: "other answer fields are 0"
 
@@ -92,9 +92,9 @@ pub record Told : Type 0 where
   pub syllable : ℕ
   pub bit : ℕ
 
-abbrev pub told : Explained → Told
-told Matched = record { refusal = 0; also = 0; answer = 1; syllable = 0; bit = 0 }
-told (NotSelected x) = record { refusal = 0; also = 0; answer = 2; syllable = 0; bit = x.0 }
-told (Against t b) = record { refusal = 0; also = 0; answer = 3; syllable = t.0; bit = b.0 }
-told (EqualToTheBottom t) = record { refusal = 0; also = 0; answer = 4; syllable = t.0; bit = 0 }
-told (Refused r) = record { refusal = number_of r; also = also_answers r; answer = 0; syllable = 0; bit = 0 }
+abbrev pub told : Result Reason Refusal → Told
+told (Ok Matched) = record { refusal = 0; also = 0; answer = 1; syllable = 0; bit = 0 }
+told (Ok (NotSelected x)) = record { refusal = 0; also = 0; answer = 2; syllable = 0; bit = x.0 }
+told (Ok (Against t b)) = record { refusal = 0; also = 0; answer = 3; syllable = t.0; bit = b.0 }
+told (Ok (EqualToTheBottom t)) = record { refusal = 0; also = 0; answer = 4; syllable = t.0; bit = 0 }
+told (Err r) = record { refusal = number_of r; also = also_answers r; answer = 0; syllable = 0; bit = 0 }

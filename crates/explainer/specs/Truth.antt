@@ -10,8 +10,8 @@ use Rattle.machine.specs.declared.Status.TheVariants.{Equal, Against}
 use Rattle.machine.specs.Machine.{response_bits, Syllable, is_top, bottom, down_from, selected}
 use Rattle.machine.specs.Search.{code_at, or_equal, read_over, satisfied, matches}
 use Rattle.machine.specs.Cells.{status_of}
-use Rattle.explainer.specs.declared.Explained.{Explained}
-use Rattle.explainer.specs.declared.Explained.TheVariants as answer
+use Rattle.explainer.specs.declared.Reason.{Reason}
+use Rattle.explainer.specs.declared.Reason.TheVariants as answer
 
 -- "not selected, with the lowest response bit that differs": under care, and no lower one does
 pub record Unselected (p : Panel) (r i : ℕ) : Type 0 where
@@ -68,17 +68,15 @@ pub record NoDifference (p : Panel) (w : ℕ) (y : Syllable) : Type 0 where
   pub same : read_over p y w ≡ read_over p y p.comp
 
 -- "matched" is said
-abbrev pub is_matched : Explained → Bool
+abbrev pub is_matched : Reason → Bool
 is_matched answer.Matched = true
 is_matched (answer.NotSelected x) = false
 is_matched (answer.Against t b) = false
 is_matched (answer.EqualToTheBottom t) = false
-is_matched (answer.Refused why) = false
 
--- what each of the four answers says; none of them is a refusal
-abbrev pub TrueOf : ℕ → Panel → ℕ → ℕ → Explained → Type 0
+-- what each of the four answers says
+abbrev pub TrueOf : ℕ → Panel → ℕ → ℕ → Reason → Type 0
 TrueOf n p w r answer.Matched = matches n p w r ≡ true
 TrueOf n p w r (answer.NotSelected x) = Unselected p r x.0
 TrueOf n p w r (answer.Against t b) = Topmost n p w r t.0 × SettledAgainst p w t.0 b.0
 TrueOf n p w r (answer.EqualToTheBottom t) = Topmost n p w r t.0 × NoDifference p w (down_from p.sdr t.0)
-TrueOf n p w r (answer.Refused why) = ⊥

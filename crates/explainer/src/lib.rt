@@ -14,46 +14,34 @@ ghost use Rattle.explainer.specs.Walks as walks;
 use chains::bits::bit_of;
 use chains::search::{accepted_at, bottom_of, code_at, pass_on};
 use machine::{
-    BitSlice, Check, Lines, Panel, RESPONSE_BITS, Refusal, Response, ResponseBit, Status,
-    WordSlice, in_order, refuse,
+    BitSlice, Lines, Panel, RESPONSE_BITS, Refusal, Response, ResponseBit, Status, WordSlice,
+    refuse,
 };
 
 // What is answered of a word. The syllable is told by the number of its top bit.
-#[derive(Clone, Copy)]
-pub enum Explained {
+#[derive(Clone, Copy, PartialEq, Eq)]
+pub enum Reason {
     Matched,
     NotSelected(ResponseBit),
     Against { syllable: BitSlice, bit: BitSlice },
     EqualToTheBottom(BitSlice),
-    Refused(Refusal),
 }
 
 // ---- what is found one after the other: the first that is no "matched" counts
 
-fn is_matched(given: Explained) -> bool
-    ensures { result ≡ truth.is_matched given }
-{
-    match given {
-        Explained::Matched => true,
-        Explained::NotSelected(_) => false,
-        Explained::Against {
-            syllable: _,
-            bit: _,
-        } => false,
-        Explained::EqualToTheBottom(_) => false,
-        Explained::Refused(_) => false,
-    }
-}
-
-fn first_of(first: Explained, second: Explained) -> Explained
+fn first_of(first: Reason, second: Reason) -> Reason
     ensures { result ≡ walks.first_of first second }
 {
-    if is_matched(first) { second } else { first }
+    if first == Reason::Matched {
+        second
+    } else {
+        first
+    }
 }
 
 // ---- "not selected, with the lowest response bit that differs"
 
-fn at_bit(panel: Panel, response: Response, i: u8) -> Explained
+fn at_bit(panel: Panel, response: Response, i: u8) -> Reason
     requires { i < 64 }
     ensures { result ≡ walks.at_bit panel response i }
 {
@@ -61,17 +49,17 @@ fn at_bit(panel: Panel, response: Response, i: u8) -> Explained
     let bit = bit_of(response as u64, i as u32);
     let key = bit_of(panel.key as u64, i as u32);
     if (care == 1) & !(bit == key) {
-        Explained::NotSelected(ResponseBit(i))
+        Reason::NotSelected(ResponseBit(i))
     } else {
-        Explained::Matched
+        Reason::Matched
     }
 }
 
 // From bit 0 up.
-fn selection(panel: Panel, response: Response) -> Explained
+fn selection(panel: Panel, response: Response) -> Reason
     ensures { result ≡ walks.selection panel response }
 {
-    let mut given = Explained::Matched;
+    let mut given = Reason::Matched;
     let mut i: u8 = 0;
     while (i as u32) < RESPONSE_BITS {
         let bit = at_bit(panel, response, i);
@@ -96,13 +84,13 @@ fn cell_at(panel: Panel, w: u64, i: u32, above: Status) -> Status
 }
 
 // What the status says that bit `bit` passes on.
-fn at_cell(status: Status, top: u8, bit: u8) -> Explained
+fn at_cell(status: Status, top: u8, bit: u8) -> Reason
     ensures { result ≡ walks.at_cell status top bit }
 {
     match status {
-        Status::Equal => Explained::Matched,
-        Status::For => Explained::Matched,
-        Status::Against => Explained::Against {
+        Status::Equal => Reason::Matched,
+        Status::For => Reason::Matched,
+        Status::Against => Reason::Against {
             syllable: BitSlice(top),
             bit: BitSlice(bit),
         },
@@ -110,11 +98,11 @@ fn at_cell(status: Status, top: u8, bit: u8) -> Explained
 }
 
 // From the top bit down.
-fn down_through(panel: Panel, w: u64, top: u8, low: u32, width: u32) -> Explained
+fn down_through(panel: Panel, w: u64, top: u8, low: u32, width: u32) -> Reason
     requires { low + width ≤ 64 }
     ensures { result ≡ reasons.down_through panel w top (syllable low width) width Status.Equal }
 {
-    let mut given = Explained::Matched;
+    let mut given = Reason::Matched;
     let mut status = Status::Equal;
     let mut j = width;
     while 0 < j {
@@ -124,10 +112,10 @@ fn down_through(panel: Panel, w: u64, top: u8, low: u32, width: u32) -> Explaine
         let cell = at_cell(status, top, i as u8);
         given = first_of(given, cell);
     }
-    first_of(given, Explained::EqualToTheBottom(BitSlice(top)))
+    first_of(given, Reason::EqualToTheBottom(BitSlice(top)))
 }
 
-fn in_syllable(panel: Panel, w: u64, top: u8) -> Explained
+fn in_syllable(panel: Panel, w: u64, top: u8) -> Reason
     requires { top < 64 }
     ensures { result ≡ reasons.in_syllable panel w top }
 {
@@ -138,24 +126,24 @@ fn in_syllable(panel: Panel, w: u64, top: u8) -> Explained
 // ---- "the topmost syllable not satisfied"
 
 // At bit t: of the syllable that it starts, if it starts one.
-fn at_top(n: u32, panel: Panel, w: u64, t: u32) -> Explained
+fn at_top(n: u32, panel: Panel, w: u64, t: u32) -> Reason
     requires { t < 64 }
     ensures { result ≡ walks.at_top n panel w t }
 {
     if accepted_at(n, panel, w, t) {
-        Explained::Matched
+        Reason::Matched
     } else {
         in_syllable(panel, w, t as u8)
     }
 }
 
 // From the top bit down.
-fn topmost(n: u32, panel: Panel, w: u64) -> Explained
+fn topmost(n: u32, panel: Panel, w: u64) -> Reason
     requires n_bound { n ≤ 64 }
     requires sdr_value { all (unmixed panel) (syllables n panel.sdr) ≡ true }
     ensures { result ≡ reasons.topmost n panel w n }
 {
-    let mut given = Explained::Matched;
+    let mut given = Reason::Matched;
     let mut t = n;
     while 0 < t {
         t -= 1;
@@ -165,7 +153,7 @@ fn topmost(n: u32, panel: Panel, w: u64) -> Explained
     given
 }
 
-fn reason(n: u32, panel: Panel, w: u64, response: Response) -> Explained
+fn reason_of(n: u32, panel: Panel, w: u64, response: Response) -> Reason
     requires n_bound { n ≤ 64 }
     requires sdr_value { all (unmixed panel) (syllables n panel.sdr) ≡ true }
     ensures { result ≡ reasons.reason n panel w response }
@@ -178,13 +166,14 @@ fn reason(n: u32, panel: Panel, w: u64, response: Response) -> Explained
 // ---- the call
 
 // "Refusals: as for a search, with 7 for the word number."
+#[tactic(auto, using(machine::proofs::Refusals::handed), unfolding(crate::specs::Reasons::explain_check))]
 pub fn check(
     words: &[u64],
     responses: &[Response],
     width: u32,
     panel: Panel,
     word: WordSlice,
-) -> Check
+) -> Result<(), Refusal>
     ensures { result ≡ reasons.explain_check (machine width words.now responses.now) panel word }
 {
     let searching = Lines {
@@ -196,9 +185,8 @@ pub fn check(
         multiadd: false,
         complement: false,
     };
-    let as_search = wide::check(words, responses, width, panel, searching);
-    let number = refuse(Refusal::NoSuchWord, words.len() <= word.0);
-    in_order(as_search, number)
+    wide::check(words, responses, width, panel, searching)?;
+    refuse(Refusal::NoSuchWord, words.len() <= word.0)
 }
 
 pub fn explain(
@@ -207,13 +195,10 @@ pub fn explain(
     width: u32,
     panel: Panel,
     word: WordSlice,
-) -> Explained
+) -> Result<Reason, Refusal>
     ensures { result ≡ reasons.explained (machine width words.now responses.now) panel word }
 {
+    check(words, responses, width, panel, word)?;
     let k = word.0;
-    let check = check(words, responses, width, panel, word);
-    match check {
-        Check::Refused(why) => Explained::Refused(why),
-        Check::Passed => reason(width, panel, words[k], responses[k]),
-    }
+    Ok(reason_of(width, panel, words[k], responses[k]))
 }

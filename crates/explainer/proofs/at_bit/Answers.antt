@@ -1,5 +1,4 @@
 -- One response bit.
-use borrow.Author.Rules.{rules}
 use Rattle.explainer.proofs.at_bit.Goals as goal
 
 pub returns-then-care-bit : goal.returns-then-care-bit

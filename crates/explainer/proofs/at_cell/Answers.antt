@@ -1,5 +1,4 @@
 -- One cell's status.
-use borrow.Author.Rules.{rules}
 use Rattle.explainer.proofs.at_cell.Goals as goal
 
 pub returns-in-Against : goal.returns-in-Against

@@ -1,7 +1,6 @@
 -- The syllable that a bit starts.
 use mathlib.Core.Path.{sym, ◌∙◌}
 use Rattle.explainer.specs.Walks.{at_top}
-use borrow.Author.Rules.{rules}
 use Rattle.explainer.proofs.at_top.Goals as goal
 
 pub returns-then-accepted_at : goal.returns-then-accepted_at

@@ -1,9 +1,5 @@
-use Prim.Native.Nat.{◌≤◌}
-use mathlib.Core.Path.{◌≡◌, refl, ◌∙◌}
-use Rattle.machine.specs.declared.Status.TheVariants.{Equal}
+use mathlib.Core.Path.{refl, ◌∙◌}
 use Rattle.chains.specs.Walks.{syllable}
-use Rattle.explainer.specs.Reasons.{down_through}
-use Rattle.explainer.specs.Walks.{first_of}
 use Rattle.explainer.proofs.Answers.{cells_step, cells_done}
 use borrow.Author.Rules.{rules}
 use Rattle.explainer.proofs.down_through.Goals as goal

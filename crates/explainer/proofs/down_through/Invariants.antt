@@ -1,12 +1,10 @@
 -- A syllable's cells from its top bit down.
 use Prim.Native.Nat.{◌≤◌}
-use mathlib.Core.Path.{◌≡◌, refl, ◌∙◌}
+use mathlib.Core.Path.{◌≡◌}
 use Rattle.machine.specs.declared.Status.TheVariants.{Equal}
 use Rattle.chains.specs.Walks.{syllable}
 use Rattle.explainer.specs.Reasons.{down_through}
 use Rattle.explainer.specs.Walks.{first_of}
-use Rattle.explainer.proofs.Answers.{cells_step, cells_done}
-use borrow.Author.Rules.{rules}
 use Rattle.explainer.proofs.down_through.Given as goal
 
 abbrev pub invariant-loop-j : goal.invariant-loop-j

@@ -5,7 +5,6 @@ use native.Mathlib.Numerals.{add-one}
 use Rattle.machine.specs.declared.Status.TheVariants.{Equal}
 use Rattle.chains.specs.Walks.{syllable}
 use Rattle.explainer.specs.Reasons.{down_through}
-use borrow.Author.Rules.{rules}
 use Rattle.explainer.proofs.in_syllable.Goals as goal
 
 pub returns : goal.returns

@@ -1,8 +1,4 @@
-use Prim.Native.Nat.{◌-◌, ◌≤◌}
-use mathlib.Core.Path.{◌≡◌}
-use Rattle.machine.specs.Machine.{response_bits}
-use Rattle.explainer.specs.Walks.{first_of, selection}
-use Rattle.explainer.proofs.Answers.{from_bit, bits_start, bits_step, bits_done}
+use Rattle.explainer.proofs.Answers.{bits_start, bits_step, bits_done}
 use borrow.Author.Rules.{rules}
 use Rattle.explainer.proofs.selection.Goals as goal
 

@@ -3,8 +3,7 @@ use Prim.Native.Nat.{◌-◌, ◌≤◌}
 use mathlib.Core.Path.{◌≡◌}
 use Rattle.machine.specs.Machine.{response_bits}
 use Rattle.explainer.specs.Walks.{first_of, selection}
-use Rattle.explainer.proofs.Answers.{from_bit, bits_start, bits_step, bits_done}
-use borrow.Author.Rules.{rules}
+use Rattle.explainer.proofs.Answers.{from_bit}
 use Rattle.explainer.proofs.selection.Given as goal
 
 abbrev pub invariant-loop-i : goal.invariant-loop-i

@@ -1,7 +1,4 @@
-use Prim.Native.Nat.{◌≤◌}
-use mathlib.Core.Path.{◌≡◌, refl}
-use Rattle.explainer.specs.Reasons.{topmost}
-use Rattle.explainer.specs.Walks.{first_of}
+use mathlib.Core.Path.{refl}
 use Rattle.explainer.proofs.Answers.{tops_step, tops_done}
 use borrow.Author.Rules.{rules}
 use Rattle.explainer.proofs.topmost.Goals as goal

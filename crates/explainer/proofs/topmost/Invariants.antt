@@ -1,10 +1,8 @@
 -- From the topmost syllable down.
 use Prim.Native.Nat.{◌≤◌}
-use mathlib.Core.Path.{◌≡◌, refl}
+use mathlib.Core.Path.{◌≡◌}
 use Rattle.explainer.specs.Reasons.{topmost}
 use Rattle.explainer.specs.Walks.{first_of}
-use Rattle.explainer.proofs.Answers.{tops_step, tops_done}
-use borrow.Author.Rules.{rules}
 use Rattle.explainer.proofs.topmost.Given as goal
 
 abbrev pub invariant-loop-t : goal.invariant-loop-t

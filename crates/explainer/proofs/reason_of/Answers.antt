@@ -1,8 +1,7 @@
 -- What the response bits say, then what the syllables say.
 use mathlib.Core.Path.{◌∙◌}
-use borrow.Author.Rules.{rules}
 use Rattle.explainer.proofs.Answers.{both_said}
-use Rattle.explainer.proofs.reason.Goals as goal
+use Rattle.explainer.proofs.reason_of.Goals as goal
 
 pub returns : goal.returns
 returns c =
