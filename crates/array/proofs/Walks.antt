@@ -3,6 +3,7 @@ use Prim.Native.Nat.{ℕ, suc, ◌+◌, ◌≤◌, ◌<◌}
 use mathlib.Core.Path.{◌≡◌, refl, sym, ap, ap₂, ◌∙◌}
 use mathlib.Core.List.{List, [], ◌∷◌, ◌++◌, append-nil}
 use mathlib.Core.Bool.{Bool, true, false}
+use mir.Val.{bool_byte}
 use native.Mathlib.Nat.{le_refl}
 use native.Mathlib.Numerals.{add-one}
 use native.Mathlib.Omega.{arith}
@@ -44,9 +45,13 @@ module _ (os xs ss : List ℕ) (i : ℕ) where
 
 -- ---- the walk
 
+-- one more is counted exactly if the test holds
+pub as_digit : (b : Bool) → bool_byte b ≡ digit b
+as_digit true = refl
+as_digit false = refl
+
 -- after i steps: f has been stored up to i, n have passed the test t
 pub record Walk (f : Word → Word) (t : Word → Bool) (os₀ xs₀ ss₀ os xs ss : List ℕ) (n i : ℕ) : Type 0 where
-  pub within : i ≤ length os₀
   pub first : length os ≡ length os₀
   pub second : length xs ≡ length os₀
   pub third : length ss ≡ length os₀
@@ -79,7 +84,6 @@ module _ {os xs ss os' xs' ss' : List ℕ} {i a b c : ℕ} (po : Put os i a os')
 module _ (f : Word → Word) (t : Word → Bool) (os₀ xs₀ ss₀ : List ℕ) where
   pub start : length xs₀ ≡ length os₀ → length ss₀ ≡ length os₀ → Walk f t os₀ xs₀ ss₀ os₀ xs₀ ss₀ 0 0
   start ex es = record {
-    within = omega arith;
     first = refl;
     second = ex;
     third = es;
@@ -98,7 +102,6 @@ module _ (f : Word → Word) (t : Word → Bool) (os₀ xs₀ ss₀ : List ℕ) 
       let hx : i < length xs = omega arith in
       let hs : i < length ss = omega arith in
       rw (add-one i) (record {
-        within = omega arith;
         first = po.long ∙ w.first;
         second = px.long ∙ w.second;
         third = ps.long ∙ w.third;
