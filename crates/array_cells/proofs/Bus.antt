@@ -1,10 +1,11 @@
 -- One bit of the read bus, gathered word by word: what is gathered and what is left give the whole.
-use Prim.Native.Nat.{ℕ, suc, ◌+◌, ◌≤◌, ◌<◌, max}
-use mathlib.Core.Path.{◌≡◌, ap, ◌∙◌}
+use Prim.Native.Nat.{ℕ, zero, suc, ◌+◌, ◌≤◌, ◌<◌, max}
+use mathlib.Core.Path.{◌≡◌, refl, ap, ◌∙◌}
 use mathlib.Core.Bool.{Bool, true, false}
 use mathlib.Core.List.{List}
 use native.Mathlib.Numerals.{add-one}
 use native.Mathlib.Omega.{arith}
+use lib.Bits.{bit_or}
 use lib.ListN.{length, get_or}
 use Rattle.laws.specs.Bits.{pick}
 use Rattle.array.specs.declared.Cell.{Cell}
@@ -29,11 +30,17 @@ pick_one : (t : Bool) (r : ℕ) → r ≤ 1 → pick t r 0 ≤ 1
 pick_one true r h = h
 pick_one false r h = omega arith
 
-pub took : (t : Bool) (r on : ℕ) → on ≤ 1 → t ≡ true → r ≡ 1 → 1 ≡ max on (pick t r 0)
-took t r on l h e = rw h (omega arith)
+or_max : (a b : ℕ) → a ≤ 1 → b ≤ 1 → bit_or a b ≡ max a b
+or_max zero zero h g = refl
+or_max zero (suc zero) h g = refl
+or_max (suc zero) zero h g = refl
+or_max (suc zero) (suc zero) h g = refl
+or_max (suc (suc a)) b h g = absurd (omega arith)
+or_max zero (suc (suc b)) h g = absurd (omega arith)
+or_max (suc zero) (suc (suc b)) h g = absurd (omega arith)
 
-pub missed : (t : Bool) (r on : ℕ) → t ≡ true → r ≤ 1 → (r ≡ 1 → ⊥) → on ≡ max on (pick t r 0)
-missed t r on h l f = rw h (omega arith)
+pub took : (t : Bool) (r on : ℕ) → on ≤ 1 → r ≤ 1 → t ≡ true → bit_or on r ≡ max on (pick t r 0)
+took t r on l k h = rw h (or_max on r l k)
 
 pub passed : (t : Bool) (r on : ℕ) → t ≡ false → on ≡ max on (pick t r 0)
 passed t r on h = rw h (omega arith)
@@ -41,13 +48,12 @@ passed t r on h = rw h (omega arith)
 -- ---- all words
 
 pub record Gathered (chosen : ℕ → Bool) (os xs ss : List ℕ) (i on k : ℕ) : Type 0 where
-  pub within : k ≤ length os
   pub small : on ≤ 1
   pub is : max on (bus chosen (words_from os xs ss k) i) ≡ bus chosen (words os xs ss) i
 
 module _ (chosen : ℕ → Bool) (os xs ss : List ℕ) (i : ℕ) where
   pub start : Gathered chosen os xs ss i 0 0
-  start = record { within = omega arith; small = omega arith; is = omega arith }
+  start = record { small = omega arith; is = omega arith }
 
   next : (on k : ℕ) → k < length os → length xs ≡ length os → length ss ≡ length os
       → max (max on (puts chosen i (word_at os xs ss k))) (bus chosen (words_from os xs ss (suc k)) i) ≡ max on (bus chosen (words_from os xs ss k) i)
@@ -58,7 +64,6 @@ module _ (chosen : ℕ → Bool) (os xs ss : List ℕ) (i : ℕ) where
       → on' ≡ max on (puts chosen i (word_at os xs ss k)) → Gathered chosen os xs ss i on' (k + 1)
   step on on' k g h ex es e =
       rw (add-one k, e) (record {
-        within = omega arith;
         small = omega (arith, g.small, pick_one (chosen (get_or ss k 0)) _ (reads_one (cell_at (word_at os xs ss k) i)));
         is = next on k h ex es ∙ g.is;
       })

@@ -1,4 +1,3 @@
 -- laws of the plain machine
-pub mod Tables
 pub mod Bus
 pub mod Turns

@@ -2,11 +2,8 @@
 use Prim.Native.Nat.{ℕ}
 use mathlib.Core.Path.{◌≡◌, refl, sym, ap, ap₂, ◌∙◌}
 use mathlib.Core.Bool.{Bool, true, false, not}
-use mathlib.Core.List.{List, [], ◌∷◌}
-use types.Run.{OneOf, miss}
-use denote.Enum.Declared.{tag_of}
+use mathlib.Core.List.{List}
 use borrow.Author.Tests.{not-true, not-false}
-use Rattle.array.specs.contracts.Operation as operation
 use Rattle.array.specs.declared.Registers.{Registers}
 use Rattle.array.specs.declared.Operation.{Operation}
 use Rattle.array.specs.declared.Operation.TheVariants.{Search, Read, Write}

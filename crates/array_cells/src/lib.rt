@@ -10,7 +10,7 @@ ghost use Rattle.array.specs.Selectors.{selected};
 ghost use Rattle.array.specs.Operations as operations;
 ghost use Rattle.array.specs.Refusals.{answer_of, after};
 
-use array::{Answer, Cell, Check, Form, Kind, Operation, Registers, Selector};
+use array::{Answer, Cell, Form, Kind, Operation, Refusal, Registers, Selector};
 use chains::bits;
 
 // ---- one cell
@@ -19,14 +19,10 @@ fn cell_of(ones: u64, xs: u64, i: u32) -> Cell
     requires { i < 64 }
     ensures { result ≡ tables.cell_of (bit ones i) (bit xs i) }
 {
-    if bits::bit_of(xs, i) == 0 {
-        if bits::bit_of(ones, i) == 0 {
-            Cell::Zero
-        } else {
-            Cell::One
-        }
-    } else {
-        Cell::X
+    match (bits::bit_of(xs, i), bits::bit_of(ones, i)) {
+        (0, 0) => Cell::Zero,
+        (0, _) => Cell::One,
+        _ => Cell::X,
     }
 }
 
@@ -34,9 +30,8 @@ fn one_of(cell: Cell) -> u64
     ensures { (result ≡ tables.one_of cell) × (result ≤ 1) }
 {
     match cell {
-        Cell::Zero => 0,
         Cell::One => 1,
-        Cell::X => 0,
+        Cell::Zero | Cell::X => 0,
     }
 }
 
@@ -44,9 +39,8 @@ fn x_of(cell: Cell) -> u64
     ensures { (result ≡ tables.x_of cell) × (result ≤ 1) }
 {
     match cell {
-        Cell::Zero => 0,
-        Cell::One => 0,
         Cell::X => 1,
+        Cell::Zero | Cell::One => 0,
     }
 }
 
@@ -55,14 +49,10 @@ fn argument_at(datum: u64, mask: u64, i: u32) -> Cell
     requires { i < 64 }
     ensures { result ≡ operations.argument_at datum mask i }
 {
-    if bits::bit_of(mask, i) == 0 {
-        Cell::X
-    } else {
-        if bits::bit_of(datum, i) == 0 {
-            Cell::Zero
-        } else {
-            Cell::One
-        }
+    match (bits::bit_of(mask, i), bits::bit_of(datum, i)) {
+        (0, _) => Cell::X,
+        (_, 0) => Cell::Zero,
+        _ => Cell::One,
     }
 }
 
@@ -70,19 +60,10 @@ fn argument_at(datum: u64, mask: u64, i: u32) -> Cell
 fn is_mismatch(argument: Cell, content: Cell) -> bool
     ensures { result ≡ tables.mismatch argument content }
 {
-    match argument {
-        Cell::Zero => match content {
-            Cell::Zero => false,
-            Cell::One => true,
-            Cell::X => false,
-        },
-        Cell::One => match content {
-            Cell::Zero => true,
-            Cell::One => false,
-            Cell::X => false,
-        },
-        Cell::X => false,
-    }
+    matches!(
+        (argument, content),
+        (Cell::Zero, Cell::One) | (Cell::One, Cell::Zero)
+    )
 }
 
 // "an X state reads as zero"
@@ -90,9 +71,8 @@ fn read_of(content: Cell) -> u64
     ensures { (result ≡ tables.reads content) × (result ≤ 1) }
 {
     match content {
-        Cell::Zero => 0,
         Cell::One => 1,
-        Cell::X => 0,
+        Cell::Zero | Cell::X => 0,
     }
 }
 
@@ -100,12 +80,10 @@ fn read_of(content: Cell) -> u64
 fn written_of(kind: Kind, argument: Cell, content: Cell) -> Cell
     ensures { result ≡ tables.written kind argument content }
 {
-    match argument {
-        Cell::X => content,
-        _ => match kind {
-            Kind::Normal => argument,
-            Kind::Special => Cell::X,
-        },
+    match (kind, argument) {
+        (_, Cell::X) => content,
+        (Kind::Normal, _) => argument,
+        (Kind::Special, _) => Cell::X,
     }
 }
 
@@ -115,13 +93,12 @@ fn is_agreeing(width: u32, datum: u64, mask: u64, ones: u64, xs: u64) -> bool
     requires { width ≤ 64 }
     ensures { result ≡ operations.agrees width datum mask (word ones xs 0) }
 {
-    let mut agree = true;
-    let mut i: u32 = 0;
-    while i < width {
-        agree = !is_mismatch(argument_at(datum, mask, i), cell_of(ones, xs, i)) & agree;
-        i += 1;
+    for i in 0..width {
+        if is_mismatch(argument_at(datum, mask, i), cell_of(ones, xs, i)) {
+            return false;
+        }
     }
-    agree
+    true
 }
 
 #[derive(Clone, Copy)]
@@ -136,12 +113,10 @@ fn write_cells(width: u32, kind: Kind, datum: u64, mask: u64, ones: u64, xs: u64
 {
     let mut new_ones: u64 = 0;
     let mut new_xs: u64 = 0;
-    let mut i: u32 = 0;
-    while i < width {
+    for i in 0..width {
         let cell = written_of(kind, argument_at(datum, mask, i), cell_of(ones, xs, i));
         new_ones += bits::at_place(one_of(cell), i);
         new_xs += bits::at_place(x_of(cell), i);
-        i += 1;
     }
     Planes {
         ones: new_ones,
@@ -235,14 +210,10 @@ fn bus_at(selector: Selector, form: Form, ones: &[u64], xs: &[u64], selectors: &
     ensures { (result ≡ operations.bus (selected selector form) (words ones.now xs.now selectors.now) i) × (result ≤ 1) }
 {
     let mut on: u64 = 0;
-    let mut k: usize = 0;
-    while k < ones.len() {
+    for k in 0..ones.len() {
         if array::is_selected(selector, form, selectors[k]) {
-            if read_of(cell_of(ones[k], xs[k], i)) == 1 {
-                on = 1;
-            }
+            on |= read_of(cell_of(ones[k], xs[k], i));
         }
-        k += 1;
     }
     on
 }
@@ -284,13 +255,11 @@ fn read_cells(
     ensures { result ≡ operations.read_into width mask old (selected selector form) (words ones.now xs.now selectors.now) }
 {
     let mut value: u64 = 0;
-    let mut i: u32 = 0;
-    while i < width {
+    for i in 0..width {
         value += bits::at_place(
             loaded_at(mask, old, selector, form, ones, xs, selectors, i),
             i,
         );
-        i += 1;
     }
     value
 }
@@ -341,16 +310,12 @@ fn turn_all(
     ensures selectors_after { selectors.new ≡ each (λ w. (operations.word_after width registers operation w).selectors) (words ones.old xs.old selectors.old) }
 {
     let mut counted: usize = 0;
-    let mut k: usize = 0;
-    while k < ones.len() {
+    for k in 0..ones.len() {
         let t = turn(width, registers, operation, ones[k], xs[k], selectors[k]);
         ones[k] = t.ones;
         xs[k] = t.xs;
         selectors[k] = t.selectors;
-        if t.counted {
-            counted += 1;
-        }
-        k += 1;
+        counted += usize::from(t.counted);
     }
     counted
 }
@@ -365,22 +330,17 @@ pub fn operate(
     width: u32,
     registers: Registers,
     operation: Operation,
-) -> Answer
+) -> Result<Answer, Refusal>
     ensures value { result ≡ answer_of (operations.array width ones.old xs.old selectors.old) registers operation }
     ensures ones_after { ones.new ≡ (after (operations.array width ones.old xs.old selectors.old) registers operation).ones }
     ensures xs_after { xs.new ≡ (after (operations.array width ones.old xs.old selectors.old) registers operation).xs }
     ensures selectors_after { selectors.new ≡ (after (operations.array width ones.old xs.old selectors.old) registers operation).selectors }
 {
-    let checked = array::check_call(ones, xs, selectors, width, registers);
-    match checked {
-        Check::Passed => {
-            let loaded = registers_after(width, registers, operation, ones, xs, selectors);
-            let count = turn_all(width, registers, operation, ones, xs, selectors);
-            Answer::Done {
-                registers: loaded,
-                count,
-            }
-        }
-        Check::Refused(why) => Answer::Refused(why),
-    }
+    array::check_call(ones, xs, selectors, width, registers)?;
+    let loaded = registers_after(width, registers, operation, ones, xs, selectors);
+    let count = turn_all(width, registers, operation, ones, xs, selectors);
+    Ok(Answer {
+        registers: loaded,
+        count,
+    })
 }

@@ -1,7 +1,4 @@
-use Prim.Native.Nat.{◌-◌}
 use mathlib.Core.Path.{sym, ap, ◌∙◌}
-use mathlib.Core.Logic.{⊎_elim}
-use lib.ListN.{length}
 use Rattle.array.specs.Cells.{reads}
 use Rattle.array.specs.Words.{cell_at}
 use Rattle.array.specs.Selectors.{selected}
@@ -9,7 +6,7 @@ use Rattle.array.proofs.Walks.{word_at}
 use Rattle.array_cells.proofs.Bus as bus
 use borrow.Author.Rules.{rules}
 use Rattle.array_cells.proofs.bus_at.Goals as goal
-use Rattle.array_cells.proofs.bus_at.Goals.{then-is_selected+then-read_of-eq1, then-is_selected+else-read_of-eq1, else-is_selected}
+use Rattle.array_cells.proofs.bus_at.Goals.{then-is_selected, else-is_selected}
 
 pub loop-k-init : goal.loop-k-init
 loop-k-init c = bus.start _ _ _ _ _
@@ -24,8 +21,7 @@ loop-k-preserved c =
     let e = c.is_selected.ensures in
     bus.step _ _ _ _ _ l.on c.if-is_selected.on l.k l.invariant (search rules) c.requires.xs_len.0 c.requires.xs_len.1
     (elim c.if-is_selected.branch [
-      | then-is_selected+then-read_of-eq1 w ↦ w.on-is ∙ bus.took t r l.on l.invariant.small (sym e ∙ w.if-is_selected.true) (sym (w.read_of.ensures.0 ∙ ap reads w.cell_of.ensures) ∙ w.if-read_of-eq1.true)
-      | then-is_selected+else-read_of-eq1 w ↦ w.on-is ∙ bus.missed t r l.on (sym e ∙ w.if-is_selected.true) (bus.reads_one (cell_at (word_at a.ones.now a.xs.now a.selectors.now l.k) a.i)) (λ z. w.if-read_of-eq1.false (w.read_of.ensures.0 ∙ ap reads w.cell_of.ensures ∙ z))
+      | then-is_selected w ↦ w.on-is ∙ rw (w.read_of-on.ensures.0 ∙ ap reads w.cell_of.ensures) (bus.took t r l.on l.invariant.small (bus.reads_one (cell_at (word_at a.ones.now a.xs.now a.selectors.now l.k) a.i)) (sym e ∙ w.if-is_selected.true))
       | else-is_selected w ↦ w.on-is ∙ bus.passed t r l.on (sym e ∙ w.if-is_selected.false)
     ])
 

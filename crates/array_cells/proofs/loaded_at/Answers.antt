@@ -1,6 +1,5 @@
 use mathlib.Core.Path.{sym, ◌∙◌}
 use Rattle.chains.proofs.Steps as steps
-use borrow.Author.Rules.{rules}
 use Rattle.array_cells.proofs.loaded_at.Goals as goal
 
 pub returns-then-bit_of-eq1 : goal.returns-then-bit_of-eq1

@@ -1,8 +1,5 @@
-use Prim.Native.Nat.{◌-◌}
 use Rattle.chains.proofs.Steps as steps
-use Rattle.array.specs.Words.{words}
-use Rattle.array.specs.Selectors.{selected}
-use Rattle.array.specs.Operations.{loaded_at, read_into}
+use Rattle.array.specs.Operations.{read_into}
 use borrow.Author.Rules.{rules}
 use Rattle.array_cells.proofs.read_cells.Goals as goal
 

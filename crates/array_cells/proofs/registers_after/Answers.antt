@@ -1,7 +1,6 @@
 use Rattle.machine.proofs.Refusals as checks
 use Rattle.array.specs.Words.{words}
 use Rattle.array_cells.proofs.Turns as turns
-use borrow.Author.Rules.{rules}
 use Rattle.array_cells.proofs.registers_after.Goals as goal
 
 pub read_cells-value-requires : goal.read_cells-value-requires

@@ -1,6 +1,5 @@
 use Rattle.machine.proofs.Refusals as checks
 use Rattle.array_cells.proofs.Turns as turns
-use borrow.Author.Rules.{rules}
 use mathlib.Core.Bool.{not as opposite}
 use mathlib.Core.Path.{ap as along}
 use Rattle.array_cells.proofs.turn.Goals as goal

@@ -1,16 +1,12 @@
-use Prim.Native.Nat.{◌+◌, ◌-◌, ◌<◌}
-use mathlib.Core.Path.{◌≡◌, sym, ap, ◌∙◌}
-use mathlib.Core.Logic.{⊎_elim}
-use mathlib.Core.Bool.{Bool}
+use Prim.Native.Nat.{◌<◌}
+use mathlib.Core.Path.{ap, ◌∙◌}
 use native.Mathlib.Omega.{arith}
 use lib.ListN.{length}
-use Rattle.laws.specs.Bits.{digit}
 use Rattle.array.specs.Words.{Word}
 use Rattle.array.specs.Operations as operations
-use Rattle.array.proofs.Walks.{Walk, start, step, done, stored}
+use Rattle.array.proofs.Walks.{start, step, done, stored, as_digit}
 use borrow.Author.Rules.{rules}
 use Rattle.array_cells.proofs.turn_all.Goals as goal
-use Rattle.array_cells.proofs.turn_all.Goals.{then-t, else-t}
 
 pub loop-k-init : goal.loop-k-init
 loop-k-init c = let p = c.requires.xs_len in start _ _ _ _ _ p.0 p.1
@@ -23,12 +19,7 @@ loop-k-preserved c =
     let ho : l.k < length l.ones = search rules in
     let hx : l.k < length l.xs = omega arith in
     let hs : l.k < length l.selectors = omega arith in
-    let e : c.if-t.counted ≡ l.counted + digit t.result.counted =
-    elim c.if-t.branch [
-      | then-t w ↦ w.counted-is ∙ sym (ap (λ (b : Bool). l.counted + digit b) w.if-t.true)
-      | else-t w ↦ w.counted-is ∙ omega (arith, ap (λ (b : Bool). l.counted + digit b) w.if-t.false)
-    ] in
-    rw e
+    rw (c.from-counted.ensures ∙ as_digit t.result.counted)
     (step (operations.word_after a.width a.registers a.operation) (operations.counted a.width a.registers a.operation)
     a.ones.now a.xs.now a.selectors.now l.invariant ho
     (stored l.ones l.k t.result.ones ho) (stored l.xs l.k t.result.xs hx) (stored l.selectors l.k t.result.selectors hs)

@@ -1,13 +1,8 @@
-use Prim.Native.Nat.{ℕ, ◌-◌}
 use mathlib.Core.Path.{ap, ap₂, ◌∙◌}
 use Rattle.chains.proofs.Steps as steps
-use Rattle.array.specs.declared.Cell.{Cell}
-use Rattle.array.specs.declared.Kind.{Kind}
 use Rattle.array.specs.Cells.{one_of, x_of, written}
-use Rattle.array.specs.Words.{word}
-use Rattle.array.specs.Operations.{written_at, written_to}
+use Rattle.array.specs.Operations.{written_to}
 use borrow.Author.Rules.{rules}
-use Rattle.array_cells.proofs.write_cells.Invariants.{plane}
 use Rattle.array_cells.proofs.write_cells.Goals as goal
 
 pub loop-i-init : goal.loop-i-init
