@@ -1,62 +1,34 @@
--- Bytes put one after the other into a buffer that has room for them.
+-- A number's digits, one after the other.
 use Prim.Native.Nat.{ℕ, zero, suc, ◌+◌, ◌*◌, ◌/◌, ◌%◌, ◌^◌, ◌<◌, ◌≤◌}
 use mathlib.Core.Path.{◌≡◌, refl, ap, sym, ◌∙◌}
 use mathlib.Core.List.{List, [], ◌∷◌, ◌++◌}
 use borrow.Author.Tests.{lt-ltb, le-ltb}
-use Rattle.output.specs.Digits.{capital, hex_digits, decimal_digits}
-use native.Mathlib.Numerals.{add-one}
+use Rattle.output.specs.Digits.{capital, hex_digits, decimal_digits, pair}
 use native.Mathlib.Omega.{arith}
 use lib.Pow.{pow-add}
 use mathlib.Core.Logic.{◌⊎◌, inl, inr, ⊎_elim}
 use Rattle.laws.proofs.Digits.{tri}
-use native.Mathlib.Nat.{pow-suc, div-div-eq-div-mul, div-lt_iff_lt-mul}
-use lib.ListN.{length, drop, get_or, set}
-use lib.Seq.{sets, drop-cons, drop-length}
+use native.Mathlib.Nat.{pow-suc, div-lt_iff_lt-mul}
 
--- what is still to be put: at place i of the bytes
-pub record Putting (out₀ : List ℕ) (at : ℕ) (s out : List ℕ) (n i : ℕ) : Type 0 where
-  pub place : n ≡ at + i
-  pub whole : sets out n (drop i s) ≡ sets out₀ at s
+-- ---- a hex digit, after which k are still to be put
 
-module _ (out₀ : List ℕ) (at : ℕ) (s out : List ℕ) (n i : ℕ) (so_far : Putting out₀ at s out n i) where
-  pub one_more : i < length s → (out' : List ℕ) (n' : ℕ) → n' ≡ n + 1 → out' ≡ set out n (get_or s i 0) → Putting out₀ at s out' n' (i + 1)
-  one_more h out' n' e f =
-      record {
-        place = omega (arith, so_far.place);
-        whole = rw (f, e, add-one n, add-one i) (rw (drop-cons s i 0) at so_far.whole);
-      }
-
-  pub all_put : length s ≡ i → (n ≡ at + length s) × (out ≡ sets out₀ at s)
-  all_put e = (omega (arith, so_far.place), rw (← e, drop-length) at so_far.whole)
-
--- two bytes
-pub two_put : (out out₁ out₂ : List ℕ) (at n₁ n₂ a b : ℕ) → n₁ ≡ at + 1 → out₁ ≡ set out at a → n₂ ≡ n₁ + 1 → out₂ ≡ set out₁ n₁ b →
-    (n₂ ≡ at + 2) × (out₂ ≡ sets out at (a ∷ (b ∷ [])))
-two_put out out₁ out₂ at n₁ n₂ a b e f g h = (omega arith, rw (h, f, e, add-one at))
-
--- ---- two hex digits, after which 2 * l of the 16 are still to be put
-
-same_power : (l : ℕ) → 2 ^ (8 * l) ≡ 16 ^ (2 * l)
+same_power : (k : ℕ) → 2 ^ (4 * k) ≡ 16 ^ k
 same_power zero = refl
-same_power (suc l) =
-    let e : 8 * suc l ≡ 8 * l + 8 = omega arith in
-    let f : 2 * suc l ≡ 2 * l + 2 = omega arith in
-    rw (e, f, pow-add 2 (8 * l) 8, pow-add 16 (2 * l) 2, same_power l)
+same_power (suc k) =
+    let e : 4 * suc k ≡ 4 * k + 4 = omega arith in
+    rw (e, pow-add 2 (4 * k) 4, pow-suc 16 k, same_power k)
 
-hex_two : (k x : ℕ) → hex_digits (suc (suc k)) x ≡ capital (x / 16 ^ k / 16) ∷ (capital (x / 16 ^ k) ∷ hex_digits k x)
+pub next_digit : (left k x d : ℕ) → left ≡ suc k → d ≡ capital (x / 2 ^ (4 * k)) → hex_digits left x ≡ (d ∷ []) ++ hex_digits k x
 unfolding hex_digits
-hex_two k x = rw (div-div-eq-div-mul x (16 ^ k) 16, ← pow-suc 16 k)
+next_digit left k x d e f = rw (e, f, same_power k)
 
-pub hex_more : (x left l : ℕ) (W out out' : List ℕ) (n n' : ℕ) → left ≡ l + 1 → sets out n (hex_digits (2 * left) x) ≡ W → n' ≡ n + 2 →
-    out' ≡ sets out n (capital (x / 2 ^ (8 * l) / 16) ∷ (capital (x / 2 ^ (8 * l)) ∷ [])) → sets out' n' (hex_digits (2 * l) x) ≡ W
-hex_more x left l W out out' n n' e told f g =
-    let m : 2 * left ≡ suc (suc (2 * l)) = omega arith in
-    let h : n + 2 ≡ suc (suc n) = omega arith in
-    rw (g, f, h, same_power l) (rw (m, hex_two (2 * l) x) at told)
-
-pub hex_none : (x : ℕ) → hex_digits 0 x ≡ []
+pub no_digit : (x : ℕ) → hex_digits 0 x ≡ []
 unfolding hex_digits
-hex_none x = refl
+no_digit x = refl
+
+pub two_digits : (x : ℕ) → hex_digits 2 x ≡ pair x
+unfolding hex_digits
+two_digits x = let e : x / 1 ≡ x = omega arith in rw e
 
 -- ---- the digits of a number are those of its tenth, and its last one
 

@@ -39,10 +39,6 @@ pub length_hex : (x : ℕ) → length (hex_digits 16 x) ≡ 16
 unfolding hex_digits
 length_hex x = refl
 
--- 16 digits, as the length of their text
-pub hex_put : (x at : ℕ) (out o : List ℕ) (n : ℕ) → (at + 16 ≤ length out → (n ≡ at + 16) × (o ≡ sets out at (hex_digits 16 x))) → Puts (hex_digits 16 x) at out o n
-hex_put x at out o n p = rw (length_hex x) p
-
 pub byte_put : (byte at : ℕ) (out o : List ℕ) (n : ℕ) → (at < length out → (n ≡ at + 1) × (o ≡ set out at byte)) → Puts (byte ∷ []) at out o n
 byte_put byte at out o n p h = p (omega arith)
 
@@ -65,3 +61,6 @@ module _ {s : List ℕ} {at : ℕ} {out₀ out : List ℕ} {n : ℕ} where
             let f = p (omega (arith, g.0)) in
             (omega (arith, f.0, g.0), ap₂ (λ (x : List ℕ) (y : ℕ). sets x y b) f.1 f.0 ∙ sym (sets_append a b out n) ∙ g.1);
       }
+
+  pub none_left : Rest s at out₀ [] out n → Puts s at out₀ out n
+  none_left r h = let g = r.told h in (omega (arith, g.0), g.1)

@@ -25,10 +25,8 @@ pub fn put(out: &mut [u8], at: usize, s: &[u8]) -> usize
     ensures { Puts s.now at out.old out.new result }
 {
     let mut n = at;
-    let mut i: usize = 0;
-    while i < s.len() {
-        n = put_byte(out, n, s[i]);
-        i += 1;
+    for byte in s {
+        n = put_byte(out, n, *byte);
     }
     n
 }
@@ -37,39 +35,34 @@ pub fn put(out: &mut [u8], at: usize, s: &[u8]) -> usize
 fn put_decimal(out: &mut [u8], at: usize, x: u64) -> usize
     ensures { Puts (decimal_digits 20 x) at out.old out.new result }
 {
-    let last = (x % 10) as u8;
+    let last = b'0' + (x % 10) as u8;
     if x < 10 {
-        return put_byte(out, at, 48 + last);
+        return put_byte(out, at, last);
     }
     let n = put_decimal(out, at, x / 10);
-    put_byte(out, n, 48 + last)
+    put_byte(out, n, last)
 }
 
 // "Contents are printed in hex with capital digits."
+#[tactic(auto, using(std::proofs::lemmas::Bool::Decides::nat_tests), unfolding(crate::specs::Digits::capital))]
 fn hex_digit(x: u64) -> u8
     ensures { result ≡ capital x }
 {
-    let d = (x % 16) as u8;
-    if d < 10 { 48 + d } else { 55 + d }
+    match (x % 16) as u8 {
+        d @ 0..=9 => b'0' + d,
+        d => b'A' - 10 + d,
+    }
 }
 
-// "2 for a response or an 8-bit register": of a larger number, those of its low 8 bits.
-fn put_hex2(out: &mut [u8], at: usize, x: u64) -> usize
-    ensures { Puts (pair x) at out.old out.new result }
-{
-    let n = put_byte(out, at, hex_digit(x / 16));
-    put_byte(out, n, hex_digit(x))
-}
-
-// "16 of them for a word or an N-bit register": two at a time, the highest first.
-fn put_hex16(out: &mut [u8], at: usize, x: u64) -> usize
-    ensures { at + 16 ≤ length out.old → (result ≡ at + 16) × (out.new ≡ sets out.old at (hex_digits 16 x)) }
+// So many digits in hex, the highest first: "16 of them for a word or an N-bit register", "2 for a response or an 8-bit register". Of
+// a larger number they are its last ones.
+fn put_hex(out: &mut [u8], at: usize, x: u64, digits: u32) -> usize
+    requires { digits ≤ 16 }
+    ensures { Puts (hex_digits digits x) at out.old out.new result }
 {
     let mut n = at;
-    let mut left: u32 = 8;
-    while 0 < left {
-        left -= 1;
-        n = put_hex2(out, n, x >> (8 * left));
+    for left in (0..digits).rev() {
+        n = put_byte(out, n, hex_digit(x >> (4 * left)));
     }
     n
 }
@@ -89,14 +82,14 @@ pub fn put_named16(out: &mut [u8], at: usize, name: &[u8], x: u64) -> usize
     ensures { Puts (name.now ++ hex_digits 16 x) at out.old out.new result }
 {
     let n = put(out, at, name);
-    put_hex16(out, n, x)
+    put_hex(out, n, x, 16)
 }
 
 // A byte of an image.
 pub fn put_pair(out: &mut [u8], at: usize, x: u8) -> usize
     ensures { Puts (pair x) at out.old out.new result }
 {
-    put_hex2(out, at, x as u64)
+    put_hex(out, at, u64::from(x), 2)
 }
 
 // A name and an 8-bit register, or a response.
