@@ -9,8 +9,8 @@ ghost use Rattle.console_commands.specs.Boards.{fresh_board, holding};
 ghost use Rattle.console_commands.specs.Ends as ends;
 ghost use Rattle.console_commands.specs.Jobs.{job_of};
 
-use explainer::Explained;
-use job_plans::{Command, Held, Job, Span};
+use explainer::Reason;
+use job_plans::{Command, Job, Span};
 use machine::{BitSlice, Panel, Refusal, ResponseBit, WordSlice};
 use text::numbers;
 
@@ -21,7 +21,7 @@ pub struct Board {
     pub words: usize,
     pub responses: usize,
     pub panel: Panel,
-    pub held: Held,
+    pub held: Option<Job>,
 }
 
 // What is to be printed of a line.
@@ -36,7 +36,7 @@ pub enum Outcome {
     },
     Word(WordSlice),
     NoWord,
-    Why(Explained),
+    Why(Result<Reason, Refusal>),
     Registers(Panel),
     Gave {
         command: Command,
@@ -61,13 +61,12 @@ pub struct Turn {
 pub fn fresh(width: u32, words: usize) -> Board
     ensures { result ≡ fresh_board width words }
 {
-    let panel = Panel::blank();
     Board {
         width,
         words,
         responses: words,
-        panel,
-        held: Held::Nothing,
+        panel: Panel::blank(),
+        held: None,
     }
 }
 
@@ -101,17 +100,10 @@ pub fn refused(board: Board, why: Refusal) -> Turn
 }
 
 // The board with another held job, or none.
-pub fn with_held(board: Board, held: Held) -> Board
+pub fn with_held(board: Board, held: Option<Job>) -> Board
     ensures { result ≡ holding board held }
 {
-    let panel = board.panel;
-    Board {
-        width: board.width,
-        words: board.words,
-        responses: board.responses,
-        panel,
-        held,
-    }
+    Board { held, ..board }
 }
 
 // ---- a job as a line writes it
