@@ -1,6 +1,5 @@
 -- laws of the host's loop, and the theorem on it: WholeRound
 pub mod Lists
-pub mod Passing
 pub mod Answering
 pub mod Working
 pub mod Counted

@@ -1,15 +1,13 @@
 -- Document 01, 'The hand-out round': a whole round, worked by the host from a list of verdicts.
-use Rattle.std.specs.Prelude.{ℕ, suc, ◌+◌, Bool, true, false, not, ◌&&◌, List, [], ◌∷◌, eqb, get_or}
+use Rattle.std.specs.Prelude.{ℕ, suc, ◌+◌, Bool, not, ◌&&◌, List, [], ◌∷◌, eqb, get_or, Result, Ok, Err}
 use Rattle.laws.specs.Bits.{pick, digit}
 use Rattle.machine.specs.declared.ResponseBit.{ResponseBit}
+use Rattle.machine.specs.declared.Refusal.{Refusal}
 use Rattle.machine.specs.Machine.{Machine, machine}
 use Rattle.machine.specs.Refusals.{answer_by, change_by, number_of, also_answers}
 use Rattle.rounds.specs.declared.Verdict.{Verdict}
 use Rattle.rounds.specs.declared.Verdict.TheVariants.{Done, Faulty}
-use Rattle.rounds.specs.declared.Reply.{Reply}
-use Rattle.rounds.specs.declared.Reply.TheVariants as reply
 use Rattle.handout.specs.declared.Report.{Report}
-use Rattle.handout.specs.declared.Report.TheVariants as report
 use Rattle.rounds.specs.Round.{has, answered, round_check}
 
 -- ---- the verdicts, by word number
@@ -23,10 +21,6 @@ verdict_by done = pick done Done Faulty
 
 abbrev pub verdict_of : List ℕ → ℕ → Verdict
 verdict_of vs k = verdict_by (says_done vs k)
-
-abbrev pub is_taken : Reply → Bool
-is_taken reply.Taken = true
-is_taken (reply.Refused why) = false
 
 -- ---- every word that has X is answered, and no other
 
@@ -50,15 +44,15 @@ abbrev pub is_faulty : ResponseBit → List ℕ → ℕ → ℕ → Bool
 is_faulty x vs k r = has x r && not (says_done vs k)
 
 unfoldable pub ended : ResponseBit → List ℕ → Machine → Report
-ended x vs m = report.Ended (tally (is_done x vs) 0 m.responses) (tally (is_faulty x vs) 0 m.responses)
+ended x vs m = record { done = tally (is_done x vs) 0 m.responses; faulty = tally (is_faulty x vs) 0 m.responses }
 
 unfoldable pub after_ended : ResponseBit → ResponseBit → List ℕ → Machine → Machine
 after_ended x f vs m = machine m.width m.words (each (worked x f vs) 0 m.responses)
 
 -- ---- checked as an answer is, but for 11: only the word that is shown is ever answered
 
-unfoldable pub report_of : ResponseBit → ResponseBit → List ℕ → Machine → Report
-report_of x f vs m = answer_by (round_check x f m) report.Refused (ended x vs m)
+unfoldable pub report_of : ResponseBit → ResponseBit → List ℕ → Machine → Result Report Refusal
+report_of x f vs m = answer_by (round_check x f m) (ended x vs m)
 
 unfoldable pub after_round : ResponseBit → ResponseBit → List ℕ → Machine → Machine
 after_round x f vs m = change_by (round_check x f m) (after_ended x f vs m) m
@@ -71,6 +65,6 @@ pub record Told : Type 0 where
   pub done : ℕ
   pub faulty : ℕ
 
-abbrev pub told : Report → Told
-told (report.Ended d f) = record { refusal = 0; also = 0; done = d; faulty = f }
-told (report.Refused r) = record { refusal = number_of r; also = also_answers r; done = 0; faulty = 0 }
+abbrev pub told : Result Report Refusal → Told
+told (Ok a) = record { refusal = 0; also = 0; done = a.done; faulty = a.faulty }
+told (Err r) = record { refusal = number_of r; also = also_answers r; done = 0; faulty = 0 }
