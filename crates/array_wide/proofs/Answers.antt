@@ -18,8 +18,9 @@ use Rattle.array.specs.declared.Sink.{Sink}
 use Rattle.array.specs.declared.Kind.{Kind}
 use Rattle.array.specs.declared.Operation.{Operation}
 use Rattle.array.specs.declared.Operation.TheVariants.{Search, Read, Write}
-use Rattle.array.specs.declared.Check.TheVariants as check
+use Rattle.array.specs.declared.Refusal.{Refusal}
 use Rattle.array.specs.declared.Answer.{Answer}
+use Rattle.std.specs.Prelude.{Result, Ok}
 use Rattle.array.specs.Words.{Word, words, each}
 use Rattle.array.specs.Selectors.{selected}
 use Rattle.array.specs.Registers.{data_of, mask_of}
@@ -42,7 +43,7 @@ each_kept (o ∷ os) (x ∷ xs) (s ∷ ss) hx hs =
     let t = each_kept os xs ss (omega arith) (omega arith) in
     (ap (λ (l : List ℕ). o ∷ l) t.0, ap (λ (l : List ℕ). x ∷ l) t.1, ap (λ (l : List ℕ). s ∷ l) t.2)
 
-module _ (n : ℕ) (os xs ss : List ℕ) (r : Registers) (h : call_check (array n os xs ss) r ≡ check.Passed) (o : Operation) (t : Answer) where
+module _ (n : ℕ) (os xs ss : List ℕ) (r : Registers) (h : call_check (array n os xs ss) r ≡ Ok tt) (o : Operation) (t : Result Answer Refusal) where
   abbrev A : Array
   A = array n os xs ss
 

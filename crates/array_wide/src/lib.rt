@@ -8,12 +8,11 @@ ghost use Rattle.laws.specs.Bits.{pick};
 ghost use Rattle.array.specs.Words.{word, words, each, how_many};
 ghost use Rattle.array.specs.Selectors.{selected, marked};
 ghost use Rattle.array.specs.Operations as operations;
-ghost use Rattle.array.specs.Refusals.{call_check, answer_of, after};
+ghost use Rattle.array.specs.Refusals.{answer_of, after};
 ghost use Rattle.array_wide.specs.Rules as rules;
 
 use array::{
-    Answer, Check, Combine, Form, Kind, Latches, Mask, Operation, Registers, Selector, Sink,
-    Source, Wanted,
+    Answer, Combine, Form, Kind, Latches, Operation, Refusal, Registers, Selector, Wanted,
 };
 
 // ---- one word
@@ -65,14 +64,10 @@ fn search_words(
     ensures selectors_after { selectors.new ≡ each (λ w. marked wanted destination combine (rules.agreeing datum mask w) w.selectors) (words ones.now xs.now selectors.old) }
 {
     let mut count: usize = 0;
-    let mut k: usize = 0;
-    while k < ones.len() {
+    for k in 0..ones.len() {
         let agree = is_agreeing(datum, mask, ones[k], xs[k]);
         selectors[k] = array::mark(wanted, destination, combine, agree, selectors[k]);
-        if agree {
-            count += 1;
-        }
-        k += 1;
+        count += usize::from(agree);
     }
     count
 }
@@ -91,13 +86,11 @@ fn read_words(selector: Selector, form: Form, ones: &[u64], xs: &[u64], selector
 {
     let mut value: u64 = 0;
     let mut count: usize = 0;
-    let mut k: usize = 0;
-    while k < ones.len() {
+    for k in 0..ones.len() {
         if array::is_selected(selector, form, selectors[k]) {
-            value = value | ones[k];
+            value |= ones[k];
             count += 1;
         }
-        k += 1;
     }
     Bus { value, count }
 }
@@ -119,106 +112,17 @@ fn write_words(
     ensures xs_after { xs.new ≡ each (λ w. pick (selected selector form w.selectors) (rules.filled mask xfill w.xs) w.xs) (words ones.old xs.old selectors.now) }
 {
     let mut count: usize = 0;
-    let mut k: usize = 0;
-    while k < ones.len() {
+    for k in 0..ones.len() {
         if array::is_selected(selector, form, selectors[k]) {
             ones[k] = filled(mask, fill, ones[k]);
             xs[k] = filled(mask, xfill, xs[k]);
             count += 1;
         }
-        k += 1;
     }
     count
 }
 
-// ---- one operation, where nothing is refused
-
-fn search(
-    source: Source,
-    mask: Mask,
-    wanted: Wanted,
-    destination: Latches,
-    combine: Combine,
-    ones: &[u64],
-    xs: &[u64],
-    selectors: &mut [u8],
-    width: u32,
-    registers: Registers,
-) -> Answer
-    requires { call_check (operations.array width ones.now xs.now selectors.old) registers ≡ Check.Passed }
-    ensures value { result ≡ answer_of (operations.array width ones.now xs.now selectors.old) registers (Operation.Search source mask wanted destination combine) }
-    ensures selectors_after { selectors.new ≡ (after (operations.array width ones.now xs.now selectors.old) registers (Operation.Search source mask wanted destination combine)).selectors }
-{
-    let datum = array::data_of(registers, source);
-    let under = array::mask_of(width, registers, mask);
-    let count = search_words(
-        datum,
-        under,
-        wanted,
-        destination,
-        combine,
-        ones,
-        xs,
-        selectors,
-    );
-    Answer::Done { registers, count }
-}
-
-fn read(
-    selector: Selector,
-    form: Form,
-    sink: Sink,
-    mask: Mask,
-    ones: &[u64],
-    xs: &[u64],
-    selectors: &[u8],
-    width: u32,
-    registers: Registers,
-) -> Answer
-    requires { call_check (operations.array width ones.now xs.now selectors.now) registers ≡ Check.Passed }
-    ensures { result ≡ answer_of (operations.array width ones.now xs.now selectors.now) registers (Operation.Read selector form sink mask) }
-{
-    let under = array::mask_of(width, registers, mask);
-    let old = array::sink_of(registers, sink);
-    let bus = read_words(selector, form, ones, xs, selectors);
-    let value = filled(under, bus.value & under, old);
-    Answer::Done {
-        registers: array::load(registers, sink, value),
-        count: bus.count,
-    }
-}
-
-fn write(
-    kind: Kind,
-    source: Source,
-    mask: Mask,
-    selector: Selector,
-    form: Form,
-    ones: &mut [u64],
-    xs: &mut [u64],
-    selectors: &[u8],
-    width: u32,
-    registers: Registers,
-) -> Answer
-    requires { call_check (operations.array width ones.old xs.old selectors.now) registers ≡ Check.Passed }
-    ensures value { result ≡ answer_of (operations.array width ones.old xs.old selectors.now) registers (Operation.Write kind source mask selector form) }
-    ensures ones_after { ones.new ≡ (after (operations.array width ones.old xs.old selectors.now) registers (Operation.Write kind source mask selector form)).ones }
-    ensures xs_after { xs.new ≡ (after (operations.array width ones.old xs.old selectors.now) registers (Operation.Write kind source mask selector form)).xs }
-{
-    let datum = array::data_of(registers, source);
-    let under = array::mask_of(width, registers, mask);
-    let count = write_words(
-        under,
-        fill_ones(kind, datum, under),
-        fill_xs(kind, under),
-        selector,
-        form,
-        ones,
-        xs,
-        selectors,
-    );
-    Answer::Done { registers, count }
-}
+// ---- one operation
 
 // One operation, or a refusal: what is lent is changed only where nothing is refused.
 pub fn operate(
@@ -228,16 +132,13 @@ pub fn operate(
     width: u32,
     registers: Registers,
     operation: Operation,
-) -> Answer
+) -> Result<Answer, Refusal>
     ensures value { result ≡ answer_of (operations.array width ones.old xs.old selectors.old) registers operation }
     ensures ones_after { ones.new ≡ (after (operations.array width ones.old xs.old selectors.old) registers operation).ones }
     ensures xs_after { xs.new ≡ (after (operations.array width ones.old xs.old selectors.old) registers operation).xs }
     ensures selectors_after { selectors.new ≡ (after (operations.array width ones.old xs.old selectors.old) registers operation).selectors }
 {
-    let checked = array::check_call(ones, xs, selectors, width, registers);
-    if let Check::Refused(why) = checked {
-        return Answer::Refused(why);
-    }
+    array::check_call(ones, xs, selectors, width, registers)?;
     match operation {
         Operation::Search {
             source,
@@ -245,34 +146,56 @@ pub fn operate(
             wanted,
             destination,
             combine,
-        } => search(
-            source,
-            mask,
-            wanted,
-            destination,
-            combine,
-            ones,
-            xs,
-            selectors,
-            width,
-            registers,
-        ),
+        } => {
+            let datum = array::data_of(registers, source);
+            let under = array::mask_of(width, registers, mask);
+            let count = search_words(
+                datum,
+                under,
+                wanted,
+                destination,
+                combine,
+                ones,
+                xs,
+                selectors,
+            );
+            Ok(Answer { registers, count })
+        }
         Operation::Read {
             selector,
             form,
             sink,
             mask,
-        } => read(
-            selector, form, sink, mask, ones, xs, selectors, width, registers,
-        ),
+        } => {
+            let under = array::mask_of(width, registers, mask);
+            let old = array::sink_of(registers, sink);
+            let bus = read_words(selector, form, ones, xs, selectors);
+            let value = filled(under, bus.value & under, old);
+            Ok(Answer {
+                registers: array::load(registers, sink, value),
+                count: bus.count,
+            })
+        }
         Operation::Write {
             kind,
             source,
             mask,
             selector,
             form,
-        } => write(
-            kind, source, mask, selector, form, ones, xs, selectors, width, registers,
-        ),
+        } => {
+            let datum = array::data_of(registers, source);
+            let under = array::mask_of(width, registers, mask);
+            let count = write_words(
+                under,
+                fill_ones(kind, datum, under),
+                fill_xs(kind, under),
+                selector,
+                form,
+                ones,
+                xs,
+                selectors,
+            );
+            Ok(Answer { registers, count })
+        }
     }
 }

@@ -1,14 +1,11 @@
-use Prim.Native.Nat.{◌+◌, ◌-◌}
+use Prim.Native.Nat.{◌+◌}
 use mathlib.Core.Path.{◌≡◌, refl, sym, ap, ◌∙◌}
 use mathlib.Core.Bool.{Bool}
-use mathlib.Core.Logic.{⊎_elim}
 use lib.Bits.{bit_or, or_zero_l}
-use lib.ListN.{length, get_or}
+use lib.ListN.{get_or}
 use Rattle.laws.specs.Bits.{digit, pick}
-use Rattle.array.specs.Words.{words}
 use Rattle.array.specs.Selectors.{selected}
-use Rattle.array.proofs.Walks.{Walk, start, step, kept, done, words_from}
-use Rattle.array_wide.specs.Rules.{union}
+use Rattle.array.proofs.Walks.{start, step, kept, done}
 use Rattle.array_wide.proofs.Gather.{counted, passed_over, gather, gathered}
 use borrow.Author.Rules.{rules}
 use Rattle.array_wide.proofs.read_words.Goals as goal

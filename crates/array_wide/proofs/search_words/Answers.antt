@@ -1,17 +1,10 @@
-use Prim.Native.Nat.{◌+◌, ◌-◌}
-use mathlib.Core.Path.{◌≡◌, refl, ap, ◌∙◌}
+use mathlib.Core.Path.{refl, ap, ◌∙◌}
 use mathlib.Core.Bool.{Bool}
-use mathlib.Core.Logic.{⊎_elim}
-use lib.ListN.{length, get_or}
-use Rattle.laws.specs.Bits.{digit}
-use Rattle.array.specs.Words.{word}
+use lib.ListN.{get_or}
 use Rattle.array.specs.Selectors.{marked}
-use Rattle.array.proofs.Walks.{Walk, start, step, stored, kept, done}
-use Rattle.array_wide.specs.Rules.{agreeing}
-use Rattle.array_wide.proofs.Gather.{counted, passed_over}
+use Rattle.array.proofs.Walks.{start, step, stored, kept, done, as_digit}
 use borrow.Author.Rules.{rules}
 use Rattle.array_wide.proofs.search_words.Goals as goal
-use Rattle.array_wide.proofs.search_words.Goals.{then-agree, else-agree}
 
 pub loop-k-init : goal.loop-k-init
 loop-k-init c =
@@ -23,9 +16,7 @@ loop-k-preserved c =
     let a = c.args in
     let t = c.is_agreeing-agree in
     let m = c.mark in
-    let count : c.if-agree.count ≡ c.loop-k.count + digit t.result =
-    elim c.if-agree.branch [ then-agree w ↦ counted c.loop-k.count w.if-agree.true w.count-is | else-agree w ↦ passed_over c.loop-k.count w.if-agree.false w.count-is ] in
-    rw count
+    rw (c.from-count.ensures ∙ as_digit t.result)
     (step _ _ _ _ _ c.loop-k.invariant (search rules) (kept _ _ _ (search rules) refl) (kept _ _ _ (search rules) refl) (stored _ _ _ (search rules)) refl refl
     (m.ensures ∙ ap (λ (b : Bool). marked a.wanted a.destination a.combine b (get_or c.loop-k.selectors c.loop-k.k 0)) t.ensures)
     t.ensures)

@@ -1,12 +1,8 @@
-use Prim.Native.Nat.{◌-◌}
 use mathlib.Core.Path.{refl, sym, ap, ◌∙◌}
 use mathlib.Core.Bool.{Bool}
-use mathlib.Core.Logic.{⊎_elim}
-use lib.ListN.{length, get_or}
+use lib.ListN.{get_or}
 use Rattle.laws.specs.Bits.{pick}
-use Rattle.array.specs.Words.{word}
-use Rattle.array.specs.Selectors.{selected}
-use Rattle.array.proofs.Walks.{Walk, start, step, stored, kept, done}
+use Rattle.array.proofs.Walks.{start, step, stored, kept, done}
 use Rattle.array_wide.specs.Rules.{filled}
 use Rattle.array_wide.proofs.Gather.{counted, passed_over}
 use borrow.Author.Rules.{rules}
