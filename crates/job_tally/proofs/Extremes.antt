@@ -1,14 +1,13 @@
 -- The extreme value, word by word: the extreme so far, with the extreme of the rest, is that of all.
-use Prim.Native.Nat.{ℕ, ◌+◌, ◌-◌, ◌/◌, ◌%◌, ◌^◌, ◌≤◌, ◌<◌, min, max}
+use Prim.Native.Nat.{ℕ, ◌-◌, ◌/◌, ◌%◌, ◌^◌, ◌≤◌, ◌<◌, min, max}
 use mathlib.Core.Path.{◌≡◌, refl, sym, ap, ◌∙◌}
 use mathlib.Core.Bool.{Bool, true, false}
 use mathlib.Core.List.{List, [], ◌∷◌}
+use mathlib.Core.Logic.{◌⊎◌, inl, inr}
 use native.Mathlib.Nat.{mod-lt}
-use native.Mathlib.Numerals.{add-one}
 use native.Mathlib.Omega.{arith}
 use lib.Pow.{pow_pos}
-use lib.ListN.{length, get_or, drop, drop_of_length-le}
-use lib.Seq.{drop-cons}
+use lib.ListN.{length}
 use Rattle.laws.specs.Bits.{pick}
 use Rattle.laws.proofs.Bits.{shifted, number_is}
 use Rattle.machine.specs.Machine.{selected}
@@ -64,46 +63,44 @@ module _ (top : ℕ) where
   stays true false x v h g = h
   stays false false x v h g = h
 
--- after k words
-pub record Seen (o : Job) (small : Bool) (ws rs : List ℕ) (best k : ℕ) : Type 0 where
-  pub within : k ≤ length ws
+-- with `left` and `right` still to come
+pub record Seen (o : Job) (small : Bool) (ws rs left right : List ℕ) (best : ℕ) : Type 0 where
   pub fits : best ≤ 2 ^ o.a.width - 1
-  pub whole : further small best (extreme small (2 ^ o.a.width - 1) (values o (drop k ws) (drop k rs))) ≡ extreme small (2 ^ o.a.width - 1) (values o ws rs)
+  pub whole : further small best (extreme small (2 ^ o.a.width - 1) (values o left right)) ≡ extreme small (2 ^ o.a.width - 1) (values o ws rs)
 
 module _ (o : Job) (small : Bool) (ws rs : List ℕ) where
-  pub start : (x : ℕ) → x ≡ pick small (2 ^ o.a.width - 1) 0 → Seen o small ws rs x 0
-  start x e = record { within = omega arith; fits = rw e (low small); whole = rw e (first (2 ^ o.a.width - 1) small (values o ws rs)) }
+  pub start : (x : ℕ) (left right : List ℕ) → left ≡ ws → right ≡ rs → x ≡ pick small (2 ^ o.a.width - 1) 0 → Seen o small ws rs left right x
+  start x left right l r e = record { fits = rw e (low small); whole = rw (e, l, r) (first (2 ^ o.a.width - 1) small (values o ws rs)) }
     where
       low : (s : Bool) → pick s (2 ^ o.a.width - 1) 0 ≤ 2 ^ o.a.width - 1
       low true = omega arith
       low false = omega arith
 
-  rest : (k : ℕ) → k < length ws → k < length rs
-      → values o (drop k ws) (drop k rs) ≡ keep_value (selected o.key o.care (get_or rs k 0)) (value_of o.a (get_or ws k 0)) (values o (drop (k + 1) ws) (drop (k + 1) rs))
+  pub turn : (x best w r : ℕ) (before_left before_right left right : List ℕ) → Seen o small ws rs before_left before_right best
+      → (before_left ≡ w ∷ left) × (before_right ≡ r ∷ right)
+      → x ≡ pick (selected o.key o.care r) (further small best (value_of o.a w)) best → Seen o small ws rs left right x
   unfolding values
-  rest k h g = rw (add-one k, drop-cons ws k 0 h, drop-cons rs k 0 g)
-
-  pub turn : (x best k : ℕ) → Seen o small ws rs best k → k < length ws → length rs ≡ length ws
-      → x ≡ pick (selected o.key o.care (get_or rs k 0)) (further small best (value_of o.a (get_or ws k 0))) best → Seen o small ws rs x (k + 1)
-  turn x best k s h e d =
-      let v = value_of o.a (get_or ws k 0) in
+  turn x best w r before_left before_right left right s e d =
+      let v = value_of o.a w in
       let top = 2 ^ o.a.width - 1 in
-      let c = selected o.key o.care (get_or rs k 0) in
+      let c = selected o.key o.care r in
       record {
-        within = omega arith;
-        fits = rw d (stays top small c best v s.fits (omega (arith, value_lt o.a (get_or ws k 0))));
-        whole =
-            rw d (one_more top small c best v (values o (drop (k + 1) ws) (drop (k + 1) rs)))
-            ∙ ap (λ (vs : List ℕ). further small best (extreme small top vs)) (sym (rest k h (omega arith)))
-            ∙ s.whole;
+        fits = rw d (stays top small c best v s.fits (omega (arith, value_lt o.a w)));
+        whole = rw d (one_more top small c best v (values o left right)) ∙ rw (e.0, e.1) at s.whole;
       }
 
-  pub done : (best k : ℕ) → Seen o small ws rs best k → length ws ≤ k
-      → (best ≡ extreme small (2 ^ o.a.width - 1) (values o ws rs)) × (best < 2 ^ o.a.width)
+  none_left : (left right : List ℕ) → (length left ≡ 0) ⊎ (length right ≡ 0) → values o left right ≡ []
   unfolding values
-  done best k s h = (
+  none_left [] right h = refl
+  none_left (w ∷ left) [] h = refl
+  none_left (w ∷ left) (r ∷ right) (inl h) = absurd (omega arith)
+  none_left (w ∷ left) (r ∷ right) (inr h) = absurd (omega arith)
+
+  pub done : (best : ℕ) (left right : List ℕ) → Seen o small ws rs left right best → (length left ≡ 0) ⊎ (length right ≡ 0)
+      → (best ≡ extreme small (2 ^ o.a.width - 1) (values o ws rs)) × (best < 2 ^ o.a.width)
+  done best left right s h = (
     sym (last (2 ^ o.a.width - 1) small best s.fits)
-        ∙ ap (λ (l : List ℕ). further small best (extreme small (2 ^ o.a.width - 1) (values o l (drop k rs)))) (sym (drop_of_length-le ws h))
+        ∙ ap (λ (vs : List ℕ). further small best (extreme small (2 ^ o.a.width - 1) vs)) (sym (none_left left right h))
         ∙ s.whole,
     omega (arith, s.fits, pow_pos o.a.width),
   )

@@ -1,17 +1,13 @@
 -- Document 01, 'Jobs': the number of pulses a job takes, from the job and the machine at its start.
-use Rattle.std.specs.Prelude.{ℕ, zero, suc, ◌+◌, ◌*◌, ◌-◌, ◌^◌, min, max, Bool, false, not, List, [], ◌∷◌, ltb}
+use Rattle.std.specs.Prelude.{ℕ, zero, suc, ◌+◌, ◌*◌, ◌-◌, ◌^◌, min, max, Bool, false, not, List, [], ◌∷◌, ltb, Result, Ok, Err, Some, None}
 use Rattle.laws.specs.Bits.{bit, number, pick, digit}
-use Rattle.machine.specs.declared.Check.{Check}
+use Rattle.machine.specs.declared.Refusal.{Refusal}
 use Rattle.machine.specs.declared.Refusal.TheVariants.{WrongJob}
 use Rattle.machine.specs.Machine.{Machine, selected}
-use Rattle.machine.specs.Refusals.{◌else◌, refuse, answer_by, number_of, also_answers}
+use Rattle.machine.specs.Refusals.{Check, ◌else◌, refuse, answer_by, number_of, also_answers}
 use Rattle.job_plans.specs.declared.Span.{Span}
 use Rattle.job_plans.specs.declared.Job.{Job}
-use Rattle.job_plans.specs.declared.Held.{Held}
-use Rattle.job_plans.specs.declared.Held.TheVariants.{Nothing, Holds}
-use Rattle.job_tally.specs.declared.Total.{Total}
-use Rattle.job_tally.specs.declared.Total.TheVariants as total
-use Rattle.job_plans.specs.Fields.{Kind, greatest, smallest, scaledAdd, product, unknown, kind_of}
+use Rattle.job_plans.specs.Fields.{Held, Kind, greatest, smallest, scaledAdd, product, unknown, kind_of}
 use Rattle.job_plans.specs.Places.{at_first, step_check}
 
 -- the sum of g over the places below k
@@ -64,8 +60,8 @@ pulses m o = pulses_for (kind_of o.kind) m o
 -- ---- the call, which 01 does not name (house): refused as a step is, and with 25 if the place is not the first
 
 abbrev pub is_first : Held → Bool
-is_first Nothing = false
-is_first (Holds o) = at_first o
+is_first None = false
+is_first (Some o) = at_first o
 
 abbrev pub first_check : Held → Check
 first_check h = refuse WrongJob (not (is_first h))
@@ -74,11 +70,11 @@ unfoldable pub total_check : Machine → Held → Check
 total_check m h = step_check m h else first_check h
 
 abbrev pub held_pulses : Machine → Held → ℕ
-held_pulses m Nothing = 0
-held_pulses m (Holds o) = pulses m o
+held_pulses m None = 0
+held_pulses m (Some o) = pulses m o
 
-unfoldable pub total_of : Machine → Held → Total
-total_of m h = answer_by (total_check m h) total.Refused (total.Pulses (held_pulses m h))
+unfoldable pub total_of : Machine → Held → Result ℕ Refusal
+total_of m h = answer_by (total_check m h) (held_pulses m h)
 
 -- ---- each answer's number and values; "other answer fields are 0"
 
@@ -87,6 +83,6 @@ pub record Told : Type 0 where
   pub also : ℕ
   pub pulses : ℕ
 
-abbrev pub told : Total → Told
-told (total.Pulses k) = record { refusal = 0; also = 0; pulses = k }
-told (total.Refused r) = record { refusal = number_of r; also = also_answers r; pulses = 0 }
+abbrev pub told : Result ℕ Refusal → Told
+told (Ok k) = record { refusal = 0; also = 0; pulses = k }
+told (Err r) = record { refusal = number_of r; also = also_answers r; pulses = 0 }

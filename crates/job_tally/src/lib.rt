@@ -3,12 +3,3 @@
 #![tactic(auto)]
 
 pub mod totals;
-
-use machine::Refusal;
-
-// What total answers.
-#[derive(Clone, Copy)]
-pub enum Total {
-    Pulses(u64),
-    Refused(Refusal),
-}

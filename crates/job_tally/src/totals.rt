@@ -4,10 +4,9 @@ ghost use Rattle.laws.specs.Bits.{pick, digit};
 ghost use Rattle.machine.specs.Machine.{machine, selected};
 ghost use Rattle.job_tally.specs.Totals.{sum_below, ones, zeros, value_of, values, greatest_of, smallest_of, pulses, is_first, first_check, total_check, total_of};
 
-use crate::Total;
 use job_places::{check_step, is_at_first};
-use job_plans::{Held, Job, Span};
-use machine::{Check, Refusal, Response, in_order, is_selected, low_bits, refuse};
+use job_plans::{Job, Kind, Span};
+use machine::{Refusal, Response, is_selected, low_bits, refuse};
 
 // ---- extremes: "the number of ones in the greatest syllable (of zeros in the smallest)"
 
@@ -20,22 +19,10 @@ fn value_of(s: Span, w: u64) -> u64
     (w >> low) & low_bits(s.width as u32)
 }
 
-fn larger(x: u64, y: u64) -> u64
-    ensures { result ≡ max x y }
-{
-    if x < y { y } else { x }
-}
-
-fn smaller(x: u64, y: u64) -> u64
-    ensures { result ≡ min x y }
-{
-    if y < x { y } else { x }
-}
-
 fn further(small: bool, x: u64, y: u64) -> u64
     ensures { result ≡ pick small (min x y) (max x y) }
 {
-    if small { smaller(x, y) } else { larger(x, y) }
+    if small { x.min(y) } else { x.max(y) }
 }
 
 // The extreme so far, with one word more.
@@ -53,36 +40,31 @@ fn with_word(o: Job, small: bool, best: u64, w: u64, r: Response) -> u64
 // The smallest or the greatest of A's values in the words that the criterion selects; where there is none, all ones or 0.
 fn extreme_of(words: &[u64], responses: &[Response], o: Job, small: bool, none: u64) -> u64
     requires width_nonzero { (0 < o.a.width) × (o.a.low.0 + o.a.width ≤ 64) }
-    requires responses_len { length responses.now ≡ length words.now }
     requires none_value { none ≡ pick small (2 ^ o.a.width - 1) 0 }
     ensures { (result ≡ pick small (smallest_of (2 ^ o.a.width - 1) (values o words.now responses.now)) (greatest_of (values o words.now responses.now))) × (result < 2 ^ o.a.width) }
 {
     let mut best = none;
-    let mut k: usize = 0;
-    while k < words.len() {
-        best = with_word(o, small, best, words[k], responses[k]);
-        k += 1;
+    for (word, response) in words.iter().zip(responses) {
+        best = with_word(o, small, best, *word, *response);
     }
     best
 }
 
 fn greatest_pulses(words: &[u64], responses: &[Response], o: Job) -> u64
     requires width_nonzero { (0 < o.a.width) × (o.a.low.0 + o.a.width ≤ 64) }
-    requires responses_len { length responses.now ≡ length words.now }
     ensures { result ≡ 1 + o.a.width + ones o.a.width (greatest_of (values o words.now responses.now)) }
 {
     let greatest = extreme_of(words, responses, o, false, 0);
-    1 + o.a.width as u64 + u64::count_ones(greatest) as u64
+    1 + u64::from(o.a.width) + u64::from(greatest.count_ones())
 }
 
 fn smallest_pulses(words: &[u64], responses: &[Response], o: Job) -> u64
     requires width_nonzero { (0 < o.a.width) × (o.a.low.0 + o.a.width ≤ 64) }
-    requires responses_len { length responses.now ≡ length words.now }
     ensures { result ≡ 1 + o.a.width + zeros o.a.width (smallest_of (2 ^ o.a.width - 1) (values o words.now responses.now)) }
 {
     let all = low_bits(o.a.width as u32);
     let smallest = extreme_of(words, responses, o, true, all);
-    1 + o.a.width as u64 + u64::count_ones(all - smallest) as u64
+    1 + u64::from(o.a.width) + u64::from((all - smallest).count_ones())
 }
 
 // ---- product: "twice the number of pairs with i+j below p"
@@ -91,74 +73,77 @@ fn smallest_pulses(words: &[u64], responses: &[Response], o: Job) -> u64
 fn pairs_at(i: u8, b: u8, p: u8) -> u64
     ensures { (result ≡ sum_below b (λ (j : ℕ). digit (ltb (i + j) p))) × (result < 256) }
 {
-    if i < p {
-        smaller(b as u64, (p - i) as u64)
-    } else {
-        0
-    }
+    u64::from(b.min(p.saturating_sub(i)))
 }
 
 fn pairs_of(a: u8, b: u8, p: u8) -> u64
     ensures { (result ≡ sum_below a (λ (i : ℕ). sum_below b (λ (j : ℕ). digit (ltb (i + j) p)))) × (result ≤ 65536) }
 {
     let mut pairs: u64 = 0;
-    let mut i: u8 = 0;
-    while i < a {
+    for i in 0..a {
         pairs += pairs_at(i, b, p);
-        i += 1;
     }
     pairs
 }
 
 // ---- every kind, whatever the machine's width
 
+#[tactic(auto, using(crate::proofs::Sums::any_ones, crate::proofs::Sums::any_zeros), unfolding(crate::specs::Totals::pulses))]
 fn pulses_of(words: &[u64], responses: &[Response], o: Job) -> u64
     requires width_nonzero { (0 < o.a.width) × (o.a.low.0 + o.a.width ≤ 64) }
-    requires responses_len { length responses.now ≡ length words.now }
     ensures { (n : ℕ) → result ≡ pulses (machine n words.now responses.now) o }
 {
-    let kind = o.kind;
-    match kind {
-        1 => greatest_pulses(words, responses, o),
-        2 => smallest_pulses(words, responses, o),
-        3 => 2 * smaller(o.a.width as u64, o.p.width as u64),
-        4 => 2 * pairs_of(o.a.width, o.b.width, o.p.width),
-        _ => 0,
+    match Kind::try_from(o.kind) {
+        Ok(kind) => match kind {
+            Kind::Greatest => greatest_pulses(words, responses, o),
+            Kind::Smallest => smallest_pulses(words, responses, o),
+            Kind::ScaledAdd => 2 * u64::from(o.a.width.min(o.p.width)),
+            Kind::Product => 2 * pairs_of(o.a.width, o.b.width, o.p.width),
+        },
+        Err(_) => 0,
     }
 }
 
 // ---- the call
 
-fn is_first(held: Held) -> bool
+fn is_first(held: Option<Job>) -> bool
     ensures { result ≡ is_first held }
 {
-    match held {
-        Held::Nothing => false,
-        Held::Holds(o) => is_at_first(o),
-    }
+    held.is_some_and(|o| is_at_first(o))
 }
 
-fn check_first(held: Held) -> Check
+fn check_first(held: Option<Job>) -> Result<(), Refusal>
     ensures { result ≡ first_check held }
 {
     refuse(Refusal::WrongJob, !is_first(held))
 }
 
-pub fn check_total(words: &[u64], responses: &[Response], width: u32, held: Held) -> Check
+#[tactic(auto, using(machine::proofs::Refusals::handed), unfolding(crate::specs::Totals::total_check))]
+pub fn check_total(
+    words: &[u64],
+    responses: &[Response],
+    width: u32,
+    held: Option<Job>,
+) -> Result<(), Refusal>
     ensures { result ≡ total_check (machine width words.now responses.now) held }
 {
-    in_order(check_step(words, responses, width, held), check_first(held))
+    check_step(words, responses, width, held)?;
+    check_first(held)
 }
 
 // Refused as a step is, and with 25 where the job does not stand at its first place.
-pub fn total(words: &[u64], responses: &[Response], width: u32, held: Held) -> Total
+#[tactic(auto, using(machine::proofs::Refusals::handed, crate::proofs::Telling::total_room), unfolding(crate::specs::Totals::total_of))]
+pub fn total(
+    words: &[u64],
+    responses: &[Response],
+    width: u32,
+    held: Option<Job>,
+) -> Result<u64, Refusal>
     ensures { result ≡ total_of (machine width words.now responses.now) held }
 {
-    if let Check::Refused(why) = check_total(words, responses, width, held) {
-        return Total::Refused(why);
-    }
+    check_total(words, responses, width, held)?;
     match held {
-        Held::Nothing => Total::Pulses(0),
-        Held::Holds(o) => Total::Pulses(pulses_of(words, responses, o)),
+        None => Ok(0),
+        Some(o) => Ok(pulses_of(words, responses, o)),
     }
 }

@@ -1,7 +1,6 @@
 use mathlib.Core.Path.{◌∙◌}
 use Rattle.job_tally.proofs.Extremes as extremes
 use lib.Bits.{and_mask}
-use borrow.Author.Rules.{rules}
 use Rattle.job_tally.proofs.totals.value_of.Goals as goal
 
 pub returns : goal.returns
