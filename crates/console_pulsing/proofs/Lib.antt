@@ -1,3 +1,2 @@
 -- laws that the functions' proofs cite
 pub mod Lines
-pub mod Calls

@@ -1,51 +1,46 @@
 -- What the commands pulse, cells, resolve, tree, why, show, done and faulty do, in the words of docs/BOARD.md: each is one call of the library on
 -- the board's machine. `args` are the words after the command's name.
-use Rattle.std.specs.Prelude.{ℕ, List}
+use Rattle.std.specs.Prelude.{ℕ, List, Option, Some, None, Result, Ok, Err}
 use Rattle.laws.specs.Bits.{pick}
 use Rattle.machine.specs.declared.Panel.{Panel}
 use Rattle.machine.specs.declared.WordSlice.{WordSlice}
 use Rattle.machine.specs.declared.ResponseBit.{ResponseBit}
+use Rattle.machine.specs.declared.Lines.{Lines}
+use Rattle.machine.specs.declared.Refusal.{Refusal}
 use Rattle.machine.specs.declared.Answer.{Answer}
-use Rattle.machine.specs.declared.Answer.TheVariants as answer
 use Rattle.machine.specs.Machine.{Machine}
-use Rattle.machine.specs.Refusals.{answer_of, after}
+use Rattle.machine.specs.Refusals.{Check, answer_of, after}
 use Rattle.explainer.specs.Reasons.{explained}
-use Rattle.resolver.specs.declared.Resolved.{Resolved}
-use Rattle.resolver.specs.declared.Resolved.TheVariants as resolved
 use Rattle.resolver.specs.Answers.{resolution}
 use Rattle.rounds.specs.declared.Verdict.{Verdict}
-use Rattle.rounds.specs.declared.Reply.{Reply}
-use Rattle.rounds.specs.declared.Reply.TheVariants as reply
 use Rattle.rounds.specs.Round.{show_of, reply_of, after_answer}
 use Rattle.text.specs.Rows.{fits, values, number_at, byte_at}
 use Rattle.console_commands.specs.declared.Outcome.{Outcome}
 use Rattle.console_commands.specs.declared.Outcome.TheVariants as outcome
-use Rattle.console_pulsing.specs.declared.Named.{Named}
-use Rattle.console_pulsing.specs.declared.Named.TheVariants.{Are, Bad}
 
 -- ---- pulse and cells
 
 -- "count C read HEX", or the refusal
-abbrev pub told : Answer → Outcome
-told (answer.Done count read) = outcome.Pulsed count read
-told (answer.Refused why) = outcome.Refused why
+abbrev pub told : Result Answer Refusal → Outcome
+told (Ok done) = outcome.Pulsed done.count done.read
+told (Err why) = outcome.Refused why
 
 -- "pulse L..: one pulse"; "cells L..: the same pulse on the plain machine"
-abbrev pub pulse_outcome : Named → Machine → Panel → Outcome
-pulse_outcome (Are lines) m p = told (answer_of m p lines)
-pulse_outcome Bad m p = outcome.BadLine
+abbrev pub pulse_outcome : Option Lines → Machine → Panel → Outcome
+pulse_outcome (Some lines) m p = told (answer_of m p lines)
+pulse_outcome None m p = outcome.BadLine
 
-abbrev pub pulse_after : Named → Machine → Panel → Machine
-pulse_after (Are lines) m p = after m p lines
-pulse_after Bad m p = m
+abbrev pub pulse_after : Option Lines → Machine → Panel → Machine
+pulse_after (Some lines) m p = after m p lines
+pulse_after None m p = m
 
 -- ---- resolve, tree, why and show
 
 -- "`word I` or `none`", or the refusal
-abbrev pub found : Resolved → Outcome
-found (resolved.At word) = outcome.Word word
-found resolved.Nothing = outcome.NoWord
-found (resolved.Refused why) = outcome.Refused why
+abbrev pub found : Result (Option WordSlice) Refusal → Outcome
+found (Ok (Some word)) = outcome.Word word
+found (Ok None) = outcome.NoWord
+found (Err why) = outcome.Refused why
 
 -- "resolve: resolution under the panel's key and care"; "tree: the same, by the network"
 abbrev pub resolve_outcome : List (List ℕ) → Machine → Panel → Outcome
@@ -66,9 +61,9 @@ show_outcome args m = pick (fits "b" args) (found (show_of (bit_in (values "b" a
 -- ---- done and faulty
 
 -- "ok", or the refusal
-abbrev pub replied : Reply → Outcome
-replied reply.Taken = outcome.Fine
-replied (reply.Refused why) = outcome.Refused why
+abbrev pub replied : Check → Outcome
+replied (Ok tt) = outcome.Fine
+replied (Err why) = outcome.Refused why
 
 -- "done X F I": X and F 0 to 255, I below 2^64
 abbrev pub word_in : List ℕ → WordSlice

@@ -1,12 +1,10 @@
 -- The lines that a pulse's words name, in the words of docs/BOARD.md: "L are from `search` `read` `write` `add` `multiwrite` `multiadd`
 -- `complement`, each at most once, in any order; none is taken too".
-use Rattle.std.specs.Prelude.{ℕ, Bool, true, false, ◌||◌, List, [], ◌∷◌, eqb, get_or}
+use Rattle.std.specs.Prelude.{ℕ, Bool, true, false, ◌||◌, List, [], ◌∷◌, Option, Some, None, eqb, get_or}
 use Rattle.laws.specs.Bits.{pick}
 use Rattle.machine.specs.declared.Lines.{Lines}
 use Rattle.text.specs.Ascii.{ascii}
 use Rattle.text.specs.Words.{words_of, place_of}
-use Rattle.console_pulsing.specs.declared.Named.{Named}
-use Rattle.console_pulsing.specs.declared.Named.TheVariants.{Are, Bad}
 
 abbrev pub line_names : List (List ℕ)
 line_names = words_of (ascii "search read write add multiwrite multiadd complement")
@@ -42,10 +40,10 @@ raise l k =
     }
 
 -- the lines of the words one after the other, beside those raised before
-unfoldable pub lines_from : Lines → List (List ℕ) → Named
-lines_from l [] = Are l
+unfoldable pub lines_from : Lines → List (List ℕ) → Option Lines
+lines_from l [] = Some l
 lines_from l (name ∷ names) =
-    let k = place_of name line_names in pick (is_raised l k) Bad (lines_from (raise l k) names)
+    let k = place_of name line_names in pick (is_raised l k) None (lines_from (raise l k) names)
 
-abbrev pub lines_of : List (List ℕ) → Named
+abbrev pub lines_of : List (List ℕ) → Option Lines
 lines_of names = lines_from no_lines names

@@ -10,17 +10,9 @@ ghost use Rattle.console_pulsing.specs.Lines as naming;
 ghost use Rattle.console_pulsing.specs.Calls as calls;
 
 use console_commands::{Board, Outcome};
-use machine::{Answer, Lines, Response, ResponseBit, WordSlice};
-use resolver::Resolved;
-use rounds::{Reply, Verdict};
+use machine::{Lines, Refusal, Response, ResponseBit, WordSlice};
+use rounds::Verdict;
 use text::{arguments, numbers};
-
-// The lines that a pulse's words name, "each at most once, in any order; none is taken too".
-#[derive(Clone, Copy)]
-pub enum Named {
-    Are(Lines),
-    Bad,
-}
 
 fn no_lines() -> Lines
     ensures { result ≡ naming.no_lines }
@@ -66,115 +58,115 @@ fn raise(lines: Lines, number: usize) -> Lines
     }
 }
 
-fn read_lines(rest: &[u8]) -> Named
+// The lines that a pulse's words name, "each at most once, in any order; none is taken too".
+fn read_lines(rest: &[u8]) -> Option<Lines>
     ensures { result ≡ naming.lines_of (words_of rest.now) }
 {
     let mut lines = no_lines();
     let mut at: usize = 0;
     while at < rest.len() {
         let word = text::words::next(rest, at);
-        let from = word.from;
-        let to = word.to;
-        if from == to {
-            return Named::Are(lines);
+        if word.from == word.to {
+            return Some(lines);
         }
         let number = text::words::which(
             b"search read write add multiwrite multiadd complement",
-            &rest[from..to],
+            &rest[word.from..word.to],
         );
         if is_raised(lines, number) {
-            return Named::Bad;
+            return None;
         }
         lines = raise(lines, number);
-        at = to;
+        at = word.to;
     }
-    Named::Are(lines)
+    Some(lines)
 }
 
-fn pulsed(answer: Answer) -> Outcome
-    ensures { result ≡ calls.told answer }
+// The two machines, which answer alike.
+#[derive(Clone, Copy)]
+pub enum Built {
+    WordWide,
+    Plain,
+}
+
+// pulse L.. and cells L..
+pub fn pulse(
+    board: Board,
+    built: Built,
+    rest: &[u8],
+    words: &mut [u64],
+    responses: &mut [Response],
+) -> Outcome
+    ensures value { result ≡ calls.pulse_outcome (naming.lines_of (words_of rest.now)) (machine board.width words.old responses.old) board.panel }
+    ensures words_after { words.new ≡ (calls.pulse_after (naming.lines_of (words_of rest.now)) (machine board.width words.old responses.old) board.panel).words }
+    ensures responses_after { responses.new ≡ (calls.pulse_after (naming.lines_of (words_of rest.now)) (machine board.width words.old responses.old) board.panel).responses }
 {
+    let Some(lines) = read_lines(rest) else {
+        return Outcome::BadLine;
+    };
+    let answer = match built {
+        Built::WordWide => wide::pulse(words, responses, board.width, board.panel, lines),
+        Built::Plain => cells::pulse(words, responses, board.width, board.panel, lines),
+    };
     match answer {
-        Answer::Done { count, read } => Outcome::Pulsed { count, read },
-        Answer::Refused(why) => Outcome::Refused(why),
+        Ok(done) => Outcome::Pulsed {
+            count: done.count,
+            read: done.read,
+        },
+        Err(why) => Outcome::Refused(why),
     }
 }
 
-// pulse L..
-pub fn pulse(board: Board, rest: &[u8], words: &mut [u64], responses: &mut [Response]) -> Outcome
-    ensures value { result ≡ calls.pulse_outcome (naming.lines_of (words_of rest.now)) (machine board.width words.old responses.old) board.panel }
-    ensures words_after { words.new ≡ (calls.pulse_after (naming.lines_of (words_of rest.now)) (machine board.width words.old responses.old) board.panel).words }
-    ensures responses_after { responses.new ≡ (calls.pulse_after (naming.lines_of (words_of rest.now)) (machine board.width words.old responses.old) board.panel).responses }
-{
-    let named = read_lines(rest);
-    let Named::Are(lines) = named else {
-        return Outcome::BadLine;
-    };
-    let panel = board.panel;
-    pulsed(wide::pulse(words, responses, board.width, panel, lines))
-}
-
-// cells L..
-pub fn cells(board: Board, rest: &[u8], words: &mut [u64], responses: &mut [Response]) -> Outcome
-    ensures value { result ≡ calls.pulse_outcome (naming.lines_of (words_of rest.now)) (machine board.width words.old responses.old) board.panel }
-    ensures words_after { words.new ≡ (calls.pulse_after (naming.lines_of (words_of rest.now)) (machine board.width words.old responses.old) board.panel).words }
-    ensures responses_after { responses.new ≡ (calls.pulse_after (naming.lines_of (words_of rest.now)) (machine board.width words.old responses.old) board.panel).responses }
-{
-    let named = read_lines(rest);
-    let Named::Are(lines) = named else {
-        return Outcome::BadLine;
-    };
-    let panel = board.panel;
-    pulsed(cells::pulse(words, responses, board.width, panel, lines))
-}
-
-fn resolved(found: Resolved) -> Outcome
+fn resolved(found: Result<Option<WordSlice>, Refusal>) -> Outcome
     ensures { result ≡ calls.found found }
 {
     match found {
-        Resolved::At(word) => Outcome::Word(word),
-        Resolved::Nothing => Outcome::NoWord,
-        Resolved::Refused(why) => Outcome::Refused(why),
+        Ok(Some(word)) => Outcome::Word(word),
+        Ok(None) => Outcome::NoWord,
+        Err(why) => Outcome::Refused(why),
     }
 }
 
-// resolve
-pub fn resolve(board: Board, rest: &[u8], words: &[u64], responses: &[Response]) -> Outcome
+// The two ways to resolve, which answer alike.
+#[derive(Clone, Copy)]
+pub enum Way {
+    Scan,
+    Network,
+}
+
+// resolve and tree
+pub fn resolve(
+    board: Board,
+    way: Way,
+    rest: &[u8],
+    words: &[u64],
+    responses: &[Response],
+) -> Outcome
     ensures { result ≡ calls.resolve_outcome (words_of rest.now) (machine board.width words.now responses.now) board.panel }
 {
     if !arguments::none(rest) {
         return Outcome::BadLine;
     }
     let panel = board.panel;
-    resolved(resolver::scan(words, responses, board.width, panel.key, panel.care))
-}
-
-// tree
-pub fn tree(board: Board, rest: &[u8], words: &[u64], responses: &[Response]) -> Outcome
-    ensures { result ≡ calls.resolve_outcome (words_of rest.now) (machine board.width words.now responses.now) board.panel }
-{
-    if !arguments::none(rest) {
-        return Outcome::BadLine;
-    }
-    let panel = board.panel;
-    resolved(resolver::network(words, responses, board.width, panel.key, panel.care))
+    resolved(match way {
+        Way::Scan => resolver::scan(words, responses, board.width, panel.key, panel.care),
+        Way::Network => resolver::network(words, responses, board.width, panel.key, panel.care),
+    })
 }
 
 // why I
 pub fn why(board: Board, rest: &[u8], words: &[u64], responses: &[Response]) -> Outcome
     ensures { result ≡ calls.why_outcome (words_of rest.now) (machine board.width words.now responses.now) board.panel }
 {
-    let row = arguments::read(rest, b"a");
-    if !row.right {
+    let Some(row) = arguments::read(rest, b"a") else {
         return Outcome::BadLine;
-    }
-    let word = WordSlice(row.values[0] as usize);
-    let panel = board.panel;
-    Outcome::Why(explainer::explain(words, responses, board.width, panel, word))
+    };
+    let word = WordSlice(row[0] as usize);
+    Outcome::Why(explainer::explain(words, responses, board.width, board.panel, word))
 }
 
 fn response_bit(x: u64) -> ResponseBit
-    ensures { result.0 ≡ x % 256 }
+    ensures { result ≡ record { 0 = x % 256 } }
 {
     ResponseBit(numbers::byte(x))
 }
@@ -183,24 +175,14 @@ fn response_bit(x: u64) -> ResponseBit
 pub fn show(board: Board, rest: &[u8], words: &[u64], responses: &[Response]) -> Outcome
     ensures { result ≡ calls.show_outcome (words_of rest.now) (machine board.width words.now responses.now) }
 {
-    let row = arguments::read(rest, b"b");
-    if !row.right {
+    let Some(row) = arguments::read(rest, b"b") else {
         return Outcome::BadLine;
-    }
-    let x = response_bit(row.values[0]);
-    resolved(rounds::show(words, responses, board.width, x))
+    };
+    resolved(rounds::show(words, responses, board.width, response_bit(row[0])))
 }
 
-fn replied(reply: Reply) -> Outcome
-    ensures { result ≡ calls.replied reply }
-{
-    match reply {
-        Reply::Taken => Outcome::Fine,
-        Reply::Refused(why) => Outcome::Refused(why),
-    }
-}
-
-fn answer(
+// done X F I and faulty X F I
+pub fn answer(
     board: Board,
     rest: &[u8],
     words: &[u64],
@@ -210,28 +192,14 @@ fn answer(
     ensures value { result ≡ calls.answer_outcome (words_of rest.now) (machine board.width words.now responses.old) }
     ensures responses_after { responses.new ≡ (calls.answer_after (words_of rest.now) verdict (machine board.width words.now responses.old)).responses }
 {
-    let row = arguments::read(rest, b"bba");
-    if !row.right {
+    let Some(row) = arguments::read(rest, b"bba") else {
         return Outcome::BadLine;
+    };
+    let x = response_bit(row[0]);
+    let f = response_bit(row[1]);
+    let word = WordSlice(row[2] as usize);
+    match rounds::answer(words, responses, board.width, x, f, word, verdict) {
+        Ok(()) => Outcome::Fine,
+        Err(why) => Outcome::Refused(why),
     }
-    let x = response_bit(row.values[0]);
-    let f = response_bit(row.values[1]);
-    let word = WordSlice(row.values[2] as usize);
-    replied(rounds::answer(words, responses, board.width, x, f, word, verdict))
-}
-
-// done X F I
-pub fn done(board: Board, rest: &[u8], words: &[u64], responses: &mut [Response]) -> Outcome
-    ensures value { result ≡ calls.answer_outcome (words_of rest.now) (machine board.width words.now responses.old) }
-    ensures responses_after { responses.new ≡ (calls.answer_after (words_of rest.now) Verdict.Done (machine board.width words.now responses.old)).responses }
-{
-    answer(board, rest, words, responses, Verdict::Done)
-}
-
-// faulty X F I
-pub fn faulty(board: Board, rest: &[u8], words: &[u64], responses: &mut [Response]) -> Outcome
-    ensures value { result ≡ calls.answer_outcome (words_of rest.now) (machine board.width words.now responses.old) }
-    ensures responses_after { responses.new ≡ (calls.answer_after (words_of rest.now) Verdict.Faulty (machine board.width words.now responses.old)).responses }
-{
-    answer(board, rest, words, responses, Verdict::Faulty)
 }

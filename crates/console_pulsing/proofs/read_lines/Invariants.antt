@@ -1,12 +1,9 @@
 -- Word after word: the lines raised so far, with the words still to come, name what all words name.
 use Prim.Native.Nat.{◌-◌, ◌≤◌}
 use mathlib.Core.Path.{◌≡◌}
-use native.Mathlib.Omega.{arith}
 use lib.ListN.{length, drop}
 use Rattle.text.specs.Words.{words_of}
 use Rattle.console_pulsing.specs.Lines.{lines_from, lines_of}
-use Rattle.console_pulsing.proofs.Lines.{lines_end, lines_over, lines_bad, lines_on}
-use borrow.Author.Rules.{rules}
 use Rattle.console_pulsing.proofs.read_lines.Given as goal
 
 abbrev pub invariant-loop-at : goal.invariant-loop-at
