@@ -1,12 +1,12 @@
 -- A register's name and its number on a line, and the panel after the load.
 use Prim.Native.Nat.{ℕ, ◌-◌, ◌<◌, ◌≤◌}
-use mathlib.Core.Bool.{Bool, true, false, not}
+use mathlib.Core.Bool.{Bool, true, false}
 use mathlib.Core.Path.{◌≡◌, refl, ap, sym, ◌∙◌}
 use mathlib.Core.List.{List, [], ◌∷◌}
 use mathlib.Core.Logic.{⊎_elim}
 use native.Mathlib.Nat.{eq-or-lt_of_le}
 use native.Mathlib.Omega.{arith}
-use borrow.Author.Tests.{lt-ltb, le-ltb, not-true, not-false}
+use borrow.Author.Tests.{lt-ltb, le-ltb}
 use lib.ListN.{length, take, drop, get_or, length-drop}
 use lib.Seq.{take_all}
 use Rattle.laws.specs.Bits.{pick}
@@ -68,15 +68,15 @@ module _ (line : List ℕ) (b : Board) (p : Place) (is : p ≡ word_at line 0) (
         (eq-or-lt_of_le (here_ordered line 0 p is (omega arith)))
 
     module _ (right : Bool) (fit : right ≡ fits (letter_for k) (words_of (after line p.to))) where
-      pub misread : not right ≡ true → bad_line b ≡ loaded b (words_of line)
-      misread h = rw (split, lt-ltb k 10 (omega arith), ← fit, not-true right h)
+      pub misread : right ≡ false → bad_line b ≡ loaded b (words_of line)
+      misread h = rw (split, lt-ltb k 10 (omega arith), ← fit, h)
 
-      module _ (h : not right ≡ false) (row : List ℕ) (reads : right ≡ true → row ≡ values (letter_for k) (words_of (after line p.to)))
+      module _ (h : right ≡ true) (row : List ℕ) (reads : row ≡ values (letter_for k) (words_of (after line p.to)))
           (q : Panel) where
         pub wellread : registers q ≡ pick (takes k (get_or row 0 0)) (load k (get_or row 0 0) b.panel) (registers b.panel) →
             fine (with_panel b q) ≡ loaded b (words_of line)
         wellread e =
-            let m : row ≡ values (letter_for k) (words_of (after line p.to)) = reads (not-false right h) in
+            let m : row ≡ values (letter_for k) (words_of (after line p.to)) = reads in
             let f : registers q ≡ load k (number_at (values (letter_for k) (words_of (after line p.to))) 0) b.panel =
             rw (m, taken k (words_of (after line p.to)) few) at e in
-            ap (λ (rs : List ℕ). fine (with_panel b (panel_of rs))) f ∙ sym (rw (split, lt-ltb k 10 (omega arith), ← fit, not-false right h))
+            ap (λ (rs : List ℕ). fine (with_panel b (panel_of rs))) f ∙ sym (rw (split, lt-ltb k 10 (omega arith), ← fit, h))

@@ -1,12 +1,11 @@
 -- What the commands machine, lend, word, response, load, panel, job and drop do, in the words of docs/BOARD.md.
 -- `args` are the words after the command's name.
-use Rattle.std.specs.Prelude.{ℕ, Bool, ◌&&◌, List, [], ◌∷◌, ltb, eqb, length, replicate, get_or, set}
+use Rattle.std.specs.Prelude.{ℕ, Bool, ◌&&◌, List, [], ◌∷◌, ltb, eqb, length, replicate, set, Some, None}
 use Prim.Native.String.{String}
 use Rattle.laws.specs.Bits.{pick}
 use Rattle.machine.specs.declared.Panel.{Panel}
 use Rattle.machine.specs.Panel.{panel_of, load}
 use Rattle.job_plans.specs.declared.Job.{Job}
-use Rattle.job_plans.specs.declared.Held.TheVariants.{Nothing, Holds}
 use Rattle.text.specs.Ascii.{ascii}
 use Rattle.text.specs.Words.{words_of, place_of}
 use Rattle.text.specs.Rows.{fits, values, number_at, byte_at}
@@ -105,9 +104,9 @@ abbrev pub job_written : Board → List (List ℕ) → Turn
 job_written b args =
     let row = values "bhhbbbbbbbbbbbx" args in
     pick (fits "bhhbbbbbbbbbbbx" args)
-    (fine (holding b (Holds (placed (job_of row) (byte_at row 11) (byte_at row 12) (byte_at row 13) (number_at row 14)))))
+    (fine (holding b (Some (placed (job_of row) (byte_at row 11) (byte_at row 12) (byte_at row 13) (number_at row 14)))))
     (bad_line b)
 
 -- "drop: the host drops the held job"
 abbrev pub dropped : Board → List (List ℕ) → Turn
-dropped b args = pick (fits "" args) (fine (holding b Nothing)) (bad_line b)
+dropped b args = pick (fits "" args) (fine (holding b None)) (bad_line b)
