@@ -1,7 +1,7 @@
 -- The next word of a line as a name, and a row of choices, each by the word after the last one's.
 use Prim.Native.Nat.{ℕ, suc, ◌+◌, ◌-◌, ◌<◌, ◌≤◌}
 use Prim.Native.String.{String}
-use mathlib.Core.Bool.{Bool, true, false, ◌&&◌, and_assoc}
+use mathlib.Core.Bool.{Bool, true, false, ◌&&◌}
 use mathlib.Core.Path.{◌≡◌, refl, ◌∙◌}
 use mathlib.Core.List.{List, [], ◌∷◌}
 use mathlib.Core.Logic.{⊎_elim}
@@ -55,18 +55,19 @@ no_name (b ∷ s) = by (eqb b 32) refl (no_name s)
 pub not_in : (names : String) → is_in names [] ≡ false
 not_in names = rw (no_name (ascii names), le-ltb (length (words_of (ascii names))) (length (words_of (ascii names))) (omega arith))
 
--- ---- one choice
+-- ---- one choice, of the next word at or after a place
 
--- what `choose` answers of the next word at or after a place
+-- that word's place among the names
+abbrev pub next_in : List ℕ → ℕ → String → ℕ
+next_in line from names = place_of (get_or (words_of (drop from line)) 0 []) (words_of (ascii names))
+
+-- what `choose` answers where that word is one of the first `most` names, and where it isn't
 abbrev pub Chose : List ℕ → ℕ → String → ℕ → Choice → Type 0
 Chose line from names most c =
-    ((c.place ≡ place_of (get_or (words_of (drop from line)) 0 []) (words_of (ascii names))) × (c.right ≡ ltb c.place most))
-    × ((c.to ≤ length line) × (words_of (drop c.to line) ≡ drop 1 (words_of (drop from line))))
+    (true ≡ ltb (next_in line from names) most) × (c.place ≡ next_in line from names) × ((c.to ≤ length line) × (words_of (drop c.to line) ≡ drop 1 (words_of (drop from line))))
 
--- whether that word is one of the names
-pub chose_in : (line : List ℕ) (from : ℕ) (names : String) (c : Choice) → Chose line from names (length (words_of (ascii names))) c →
-    c.right ≡ is_in names (get_or (words_of (drop from line)) 0 [])
-chose_in line from names c chose = chose.0.1 ∙ (rw chose.0.0)
+abbrev pub Missed : List ℕ → ℕ → String → ℕ → Type 0
+Missed line from names most = false ≡ ltb (next_in line from names) most
 
 -- ---- a row of choices
 
@@ -76,35 +77,39 @@ unfolding named
 named_on names rest [] = rw (not_in names)
 named_on names rest (w ∷ ws) = refl
 
--- k choices are made, up to a place, all of them `right` or not; `rest` is the row of those to come
-pub record Made (line : List ℕ) (row rest : List String) (k from : ℕ) (right : Bool) : Type 0 where
+-- k choices are made, up to a place; `rest` is the row of those to come
+pub record Made (line : List ℕ) (row rest : List String) (k from : ℕ) : Type 0 where
   pub inside : from ≤ length line
   pub here : words_of (drop from line) ≡ drop k (words_of line)
-  pub so_far : (right && named rest (drop k (words_of line))) ≡ named row (words_of line)
+  pub so_far : named rest (drop k (words_of line)) ≡ named row (words_of line)
 
-pub none_made : (line : List ℕ) (row : List String) → Made line row row 0 0 true
+pub none_made : (line : List ℕ) (row : List String) → Made line row row 0 0
 none_made line row = record { inside = omega arith; here = refl; so_far = refl }
 
--- one more is made, and which it is
-module _ {line : List ℕ} {row rest : List String} {k from : ℕ} {right : Bool} {names : String} (m : Made line row (names ∷ rest) k from right)
-    (c : Choice) (chose : Chose line from names (length (words_of (ascii names))) c) where
-  pub place_made : c.place ≡ at (words_of line) k names
-  place_made = let z : k + 0 ≡ k = omega arith in chose.0.0 ∙ (rw (m.here, get_or-drop, z))
+-- one more is made, and which it is, or it isn't made
+module _ {line : List ℕ} {row rest : List String} {k from : ℕ} {names : String} (m : Made line row (names ∷ rest) k from) where
+  module _ (c : Choice) (chose : Chose line from names (length (words_of (ascii names))) c) where
+    pub place_made : c.place ≡ at (words_of line) k names
+    place_made = let z : k + 0 ≡ k = omega arith in chose.1 ∙ (rw (m.here, get_or-drop, z))
 
-  pub one_made : Made line row rest (suc k) c.to (right && c.right)
-  one_made =
-      let args = words_of line in
-      let r : c.right ≡ is_in names (get_or (drop k args) 0 []) = chose_in line from names c chose ∙ (rw m.here) in
-      let d : drop 1 (drop k args) ≡ drop (suc k) args = rw (drop-drop, add-one) in
-      record {
-        inside = chose.1.0;
-        here = rw (chose.1.1, m.here, d);
-        so_far = and_assoc right c.right (named rest (drop (suc k) args)) ∙ (rw (← m.so_far, named_on, r, d));
-      }
+    pub one_made : Made line row rest (suc k) c.to
+    one_made =
+        let args = words_of line in
+        let r : is_in names (get_or (drop k args) 0 []) ≡ true = rw (← m.here, ← chose.0) in
+        let d : drop 1 (drop k args) ≡ drop (suc k) args = rw (drop-drop, add-one) in
+        record {
+          inside = chose.2.0;
+          here = rw (chose.2.1, m.here, d);
+          so_far = rw (← m.so_far, named_on, r, d);
+        }
+
+  pub missed : Missed line from names (length (words_of (ascii names))) → named row (words_of line) ≡ false
+  missed h =
+      let r : is_in names (get_or (drop k (words_of line)) 0 []) ≡ false = rw (← m.here, ← h) in rw (← m.so_far, named_on, r)
 
 -- all are made: what is left is whether there is a word more
-pub all_made : {line : List ℕ} {row : List String} {k from : ℕ} {right none : Bool} → Made line row [] k from right →
-    none ≡ eqb (word_at line from).from (word_at line from).to → (right && none) ≡ named row (words_of line)
+pub all_made : {line : List ℕ} {row : List String} {k from : ℕ} {none : Bool} → Made line row [] k from →
+    none ≡ eqb (word_at line from).from (word_at line from).to → none ≡ named row (words_of line)
 unfolding named
 all_made {line} {row} {k} {from} m e =
     let p = word_at line from in

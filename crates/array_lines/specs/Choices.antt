@@ -1,5 +1,5 @@
 -- An operation on the array as a line of docs/BOARD.md writes it: `args` are the words behind the command's name, one for each choice.
-use Rattle.std.specs.Prelude.{ℕ, Bool, true, false, ◌&&◌, List, [], ◌∷◌, ltb, eqb, length, get_or}
+use Rattle.std.specs.Prelude.{ℕ, Bool, true, false, ◌&&◌, List, [], ◌∷◌, ltb, eqb, length, get_or, Option, Some, None}
 use Prim.Native.String.{String}
 use Rattle.laws.specs.Bits.{pick}
 use Rattle.text.specs.Ascii.{ascii}
@@ -22,9 +22,8 @@ use Rattle.array.specs.declared.Sink.{Sink}
 use Rattle.array.specs.declared.Sink.TheVariants as sink
 use Rattle.array.specs.declared.Kind.{Kind}
 use Rattle.array.specs.declared.Kind.TheVariants.{Normal, Special}
+use Rattle.array.specs.declared.Operation.{Operation}
 use Rattle.array.specs.declared.Operation.TheVariants.{Search, Read, Write}
-use Rattle.array_lines.specs.declared.Asked.{Asked}
-use Rattle.array_lines.specs.declared.Asked.TheVariants.{Is, Bad}
 
 -- ---- a word among the names of a choice
 
@@ -86,39 +85,39 @@ kind_at k = pick (eqb k 0) Normal Special
 -- ---- the three operations
 
 -- "search3 DATA MASK WORDS SET HOW"
-unfoldable pub search_line : List (List ℕ) → Asked
+unfoldable pub search_line : List (List ℕ) → Option Operation
 search_line args =
     pick (named ("r1 r2" ∷ "m ones zeros" ∷ "agree disagree" ∷ "p s" ∷ "replace and or" ∷ []) args)
-    (Is
+    (Some
     (Search
     (source_at (at args 0 "r1 r2"))
     (mask_at (at args 1 "m ones zeros"))
     (wanted_at (at args 2 "agree disagree"))
     (latches_at (at args 3 "p s"))
     (combine_at (at args 4 "replace and or"))))
-    Bad
+    None
 
 -- "read3 SET SENSE SINK MASK"
-unfoldable pub read_line : List (List ℕ) → Asked
+unfoldable pub read_line : List (List ℕ) → Option Operation
 read_line args =
     pick (named ("p s none" ∷ "true complement" ∷ "r1 r2 m" ∷ "m ones zeros" ∷ []) args)
-    (Is
+    (Some
     (Read
     (selector_at (at args 0 "p s none"))
     (form_at (at args 1 "true complement"))
     (sink_at (at args 2 "r1 r2 m"))
     (mask_at (at args 3 "m ones zeros"))))
-    Bad
+    None
 
 -- "write3 KIND DATA MASK SET SENSE"
-unfoldable pub write_line : List (List ℕ) → Asked
+unfoldable pub write_line : List (List ℕ) → Option Operation
 write_line args =
     pick (named ("normal special" ∷ "r1 r2" ∷ "m ones zeros" ∷ "p s none" ∷ "true complement" ∷ []) args)
-    (Is
+    (Some
     (Write
     (kind_at (at args 0 "normal special"))
     (source_at (at args 1 "r1 r2"))
     (mask_at (at args 2 "m ones zeros"))
     (selector_at (at args 3 "p s none"))
     (form_at (at args 4 "true complement"))))
-    Bad
+    None

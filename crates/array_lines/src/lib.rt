@@ -1,43 +1,33 @@
 // An operation on the array as a line of the console writes it: a word for each choice. docs/BOARD.md has the language.
 #![tactic(auto)]
 
-ghost use Rattle.std.specs.Prelude.{◌≡◌, [], ◌≤◌, ltb, length, get_or, drop};
+ghost use Rattle.std.specs.Prelude.{◌≡◌, [], ◌≤◌, ltb, length, get_or, drop, is_some, IfSome};
 ghost use Rattle.text.specs.Words.{words_of, place_of};
 ghost use Rattle.array_lines.specs.Choices as choices;
 
 use array::{Combine, Form, Kind, Latches, Mask, Operation, Selector, Sink, Source, Wanted};
 use text::words;
 
-// What a line asks of the array.
-#[derive(Clone, Copy)]
-pub enum Asked {
-    Is(Operation),
-    Bad,
-}
-
-// A word of a line as one of the names of a choice: whether it is one of them, which, and where it ends.
-#[derive(Clone, Copy)]
+// A word of a line as one of the names of a choice: which of them it is, and where it ends.
+#[derive(Clone, Copy, PartialEq, Eq)]
 pub struct Choice {
-    pub right: bool,
     pub place: usize,
     pub to: usize,
 }
 
-// The next word at or after `at` among `most` names.
-pub fn choose(line: &[u8], at: usize, names: &[u8], most: usize) -> Choice
+// The next word at or after `at`, if it is one of the first `most` names.
+pub fn choose(line: &[u8], at: usize, names: &[u8], most: usize) -> Option<Choice>
     requires { at ≤ length line.now }
-    ensures place_value { (result.place ≡ place_of (get_or (words_of (drop at line.now)) 0 []) (words_of names.now)) × (result.right ≡ ltb result.place most) }
-    ensures to_in_bounds { (result.to ≤ length line.now) × (words_of (drop result.to line.now) ≡ drop 1 (words_of (drop at line.now))) }
+    ensures right_value { is_some result ≡ ltb (place_of (get_or (words_of (drop at line.now)) 0 []) (words_of names.now)) most }
+    ensures place_value { IfSome result (λ choice. choice.place ≡ place_of (get_or (words_of (drop at line.now)) 0 []) (words_of names.now)) }
+    ensures to_in_bounds { IfSome result (λ choice. (choice.to ≤ length line.now) × (words_of (drop choice.to line.now) ≡ drop 1 (words_of (drop at line.now)))) }
 {
     let word = words::next(line, at);
-    let from = word.from;
-    let to = word.to;
-    let place = words::which(names, &line[from..to]);
-    Choice {
-        right: place < most,
-        place,
-        to,
+    let place = words::which(names, &line[word.from..word.to]);
+    if most <= place {
+        return None;
     }
+    Some(Choice { place, to: word.to })
 }
 
 // ---- each choice, by the place of its name
@@ -45,155 +35,144 @@ pub fn choose(line: &[u8], at: usize, names: &[u8], most: usize) -> Choice
 pub fn source_at(place: usize) -> Source
     ensures { result ≡ choices.source_at place }
 {
-    if place == 0 { Source::R1 } else { Source::R2 }
+    match place {
+        0 => Source::R1,
+        _ => Source::R2,
+    }
 }
 
 pub fn mask_at(place: usize) -> Mask
     ensures { result ≡ choices.mask_at place }
 {
-    if place == 0 {
-        Mask::M
-    } else {
-        if place == 1 { Mask::Ones } else { Mask::Zeros }
+    match place {
+        0 => Mask::M,
+        1 => Mask::Ones,
+        _ => Mask::Zeros,
     }
 }
 
 pub fn wanted_at(place: usize) -> Wanted
     ensures { result ≡ choices.wanted_at place }
 {
-    if place == 0 {
-        Wanted::Agree
-    } else {
-        Wanted::Disagree
+    match place {
+        0 => Wanted::Agree,
+        _ => Wanted::Disagree,
     }
 }
 
 pub fn latches_at(place: usize) -> Latches
     ensures { result ≡ choices.latches_at place }
 {
-    if place == 0 { Latches::P } else { Latches::S }
+    match place {
+        0 => Latches::P,
+        _ => Latches::S,
+    }
 }
 
 pub fn combine_at(place: usize) -> Combine
     ensures { result ≡ choices.combine_at place }
 {
-    if place == 0 {
-        Combine::Replace
-    } else {
-        if place == 1 {
-            Combine::And
-        } else {
-            Combine::Or
-        }
+    match place {
+        0 => Combine::Replace,
+        1 => Combine::And,
+        _ => Combine::Or,
     }
 }
 
 pub fn selector_at(place: usize) -> Selector
     ensures { result ≡ choices.selector_at place }
 {
-    if place == 0 {
-        Selector::P
-    } else {
-        if place == 1 {
-            Selector::S
-        } else {
-            Selector::Zeros
-        }
+    match place {
+        0 => Selector::P,
+        1 => Selector::S,
+        _ => Selector::Zeros,
     }
 }
 
 pub fn form_at(place: usize) -> Form
     ensures { result ≡ choices.form_at place }
 {
-    if place == 0 {
-        Form::True
-    } else {
-        Form::Complement
+    match place {
+        0 => Form::True,
+        _ => Form::Complement,
     }
 }
 
 pub fn sink_at(place: usize) -> Sink
     ensures { result ≡ choices.sink_at place }
 {
-    if place == 0 {
-        Sink::R1
-    } else {
-        if place == 1 { Sink::R2 } else { Sink::M }
+    match place {
+        0 => Sink::R1,
+        1 => Sink::R2,
+        _ => Sink::M,
     }
 }
 
 pub fn kind_at(place: usize) -> Kind
     ensures { result ≡ choices.kind_at place }
 {
-    if place == 0 {
-        Kind::Normal
-    } else {
-        Kind::Special
+    match place {
+        0 => Kind::Normal,
+        _ => Kind::Special,
     }
 }
 
 // ---- the three operations, from the words behind the command's name
 
-pub fn search_of(line: &[u8]) -> Asked
+pub fn search_of(line: &[u8]) -> Option<Operation>
     ensures { result ≡ choices.search_line (words_of line.now) }
 {
-    let source = choose(line, 0, b"r1 r2", 2);
-    let mask = choose(line, source.to, b"m ones zeros", 3);
-    let wanted = choose(line, mask.to, b"agree disagree", 2);
-    let destination = choose(line, wanted.to, b"p s", 2);
-    let combine = choose(line, destination.to, b"replace and or", 3);
-    let right = source.right & mask.right & wanted.right & destination.right & combine.right;
-    if right & words::none_left(line, combine.to) {
-        Asked::Is(Operation::Search {
-            source: source_at(source.place),
-            mask: mask_at(mask.place),
-            wanted: wanted_at(wanted.place),
-            destination: latches_at(destination.place),
-            combine: combine_at(combine.place),
-        })
-    } else {
-        Asked::Bad
+    let source = choose(line, 0, b"r1 r2", 2)?;
+    let mask = choose(line, source.to, b"m ones zeros", 3)?;
+    let wanted = choose(line, mask.to, b"agree disagree", 2)?;
+    let destination = choose(line, wanted.to, b"p s", 2)?;
+    let combine = choose(line, destination.to, b"replace and or", 3)?;
+    if !words::none_left(line, combine.to) {
+        return None;
     }
+    Some(Operation::Search {
+        source: source_at(source.place),
+        mask: mask_at(mask.place),
+        wanted: wanted_at(wanted.place),
+        destination: latches_at(destination.place),
+        combine: combine_at(combine.place),
+    })
 }
 
-pub fn read_of(line: &[u8]) -> Asked
+pub fn read_of(line: &[u8]) -> Option<Operation>
     ensures { result ≡ choices.read_line (words_of line.now) }
 {
-    let selector = choose(line, 0, b"p s none", 3);
-    let form = choose(line, selector.to, b"true complement", 2);
-    let sink = choose(line, form.to, b"r1 r2 m", 3);
-    let mask = choose(line, sink.to, b"m ones zeros", 3);
-    let right = selector.right & form.right & sink.right & mask.right;
-    if right & words::none_left(line, mask.to) {
-        Asked::Is(Operation::Read {
-            selector: selector_at(selector.place),
-            form: form_at(form.place),
-            sink: sink_at(sink.place),
-            mask: mask_at(mask.place),
-        })
-    } else {
-        Asked::Bad
+    let selector = choose(line, 0, b"p s none", 3)?;
+    let form = choose(line, selector.to, b"true complement", 2)?;
+    let sink = choose(line, form.to, b"r1 r2 m", 3)?;
+    let mask = choose(line, sink.to, b"m ones zeros", 3)?;
+    if !words::none_left(line, mask.to) {
+        return None;
     }
+    Some(Operation::Read {
+        selector: selector_at(selector.place),
+        form: form_at(form.place),
+        sink: sink_at(sink.place),
+        mask: mask_at(mask.place),
+    })
 }
 
-pub fn write_of(line: &[u8]) -> Asked
+pub fn write_of(line: &[u8]) -> Option<Operation>
     ensures { result ≡ choices.write_line (words_of line.now) }
 {
-    let kind = choose(line, 0, b"normal special", 2);
-    let source = choose(line, kind.to, b"r1 r2", 2);
-    let mask = choose(line, source.to, b"m ones zeros", 3);
-    let selector = choose(line, mask.to, b"p s none", 3);
-    let form = choose(line, selector.to, b"true complement", 2);
-    let right = kind.right & source.right & mask.right & selector.right & form.right;
-    if right & words::none_left(line, form.to) {
-        Asked::Is(Operation::Write {
-            kind: kind_at(kind.place),
-            source: source_at(source.place),
-            mask: mask_at(mask.place),
-            selector: selector_at(selector.place),
-            form: form_at(form.place),
-        })
-    } else {
-        Asked::Bad
+    let kind = choose(line, 0, b"normal special", 2)?;
+    let source = choose(line, kind.to, b"r1 r2", 2)?;
+    let mask = choose(line, source.to, b"m ones zeros", 3)?;
+    let selector = choose(line, mask.to, b"p s none", 3)?;
+    let form = choose(line, selector.to, b"true complement", 2)?;
+    if !words::none_left(line, form.to) {
+        return None;
     }
+    Some(Operation::Write {
+        kind: kind_at(kind.place),
+        source: source_at(source.place),
+        mask: mask_at(mask.place),
+        selector: selector_at(selector.place),
+        form: form_at(form.place),
+    })
 }

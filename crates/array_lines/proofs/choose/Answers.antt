@@ -1,11 +1,23 @@
-use mathlib.Core.Path.{refl, ◌∙◌}
-use native.Mathlib.Omega.{arith}
+use mathlib.Core.Path.{sym, ◌∙◌}
+use borrow.Author.Tests.{lt-ltb, le-ltb}
 use borrow.Author.Rules.{rules}
 use Rattle.array_lines.proofs.Names.{word_here, words_behind}
 use Rattle.array_lines.proofs.choose.Goals as goal
 
-pub returns : goal.returns
-returns c = let a = c.args in let n = c.next-word in let h = c.requires in record {
-  place_value = (c.which-place.ensures ∙ (rw (word_here a.line.now a.at n.result n.ensures.value h)), refl);
-  to_in_bounds = (omega arith, words_behind a.line.now a.at n.result n.ensures.value h);
-}
+pub returns-then-most-place-clause-right_value : goal.returns-then-most-place-clause-right_value
+returns-then-most-place-clause-right_value c =
+    let a = c.args in let n = c.next-word in
+    rw (← word_here a.line.now a.at n.result n.ensures.value c.requires, ← c.which-place.ensures) (sym (le-ltb _ _ c.if-most-place.true))
+
+pub returns-clause-right_value : goal.returns-clause-right_value
+returns-clause-right_value c =
+    let a = c.args in let n = c.next-word in
+    rw (← word_here a.line.now a.at n.result n.ensures.value c.requires, ← c.which-place.ensures) (sym (lt-ltb _ _ c.if-most-place.false))
+
+pub returns-clause-place_value : goal.returns-clause-place_value
+returns-clause-place_value c =
+    let a = c.args in let n = c.next-word in c.which-place.ensures ∙ (rw (word_here a.line.now a.at n.result n.ensures.value c.requires))
+
+pub returns-clause-to_in_bounds : goal.returns-clause-to_in_bounds
+returns-clause-to_in_bounds c =
+    let a = c.args in let n = c.next-word in (search rules, words_behind a.line.now a.at n.result n.ensures.value c.requires)

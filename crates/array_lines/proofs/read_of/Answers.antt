@@ -1,9 +1,22 @@
+use mathlib.Core.Path.{◌∙◌}
 use borrow.Author.Rules.{rules}
-use Rattle.array_lines.proofs.Operations.{read_is, read_bad}
+use Rattle.array_lines.proofs.Operations as operations
 use Rattle.array_lines.proofs.read_of.Goals as goal
 
-pub returns-then-right-none_left : goal.returns-then-right-none_left
-returns-then-right-none_left c = read_is c.args.line.now c.choose-selector.result c.choose-form.result c.choose-sink.result c.choose-mask.result c.none_left.result (c.choose-selector.ensures.place_value, c.choose-selector.ensures.to_in_bounds) (c.choose-form.ensures.place_value, c.choose-form.ensures.to_in_bounds) (c.choose-sink.ensures.place_value, c.choose-sink.ensures.to_in_bounds) (c.choose-mask.ensures.place_value, c.choose-mask.ensures.to_in_bounds) c.none_left.ensures c.if-right-none_left.true c.selector_at.ensures c.form_at.ensures c.sink_at.ensures c.mask_at.ensures
+pub returns-in_err-selector : goal.returns-in_err-selector
+returns-in_err-selector c = c.from_residual.ensures ∙ operations.read_missed_0 c.args.line.now c.in_err-selector.ensures.right_value
 
-pub returns-else-right-none_left : goal.returns-else-right-none_left
-returns-else-right-none_left c = read_bad c.args.line.now c.choose-selector.result c.choose-form.result c.choose-sink.result c.choose-mask.result c.none_left.result (c.choose-selector.ensures.place_value, c.choose-selector.ensures.to_in_bounds) (c.choose-form.ensures.place_value, c.choose-form.ensures.to_in_bounds) (c.choose-sink.ensures.place_value, c.choose-sink.ensures.to_in_bounds) (c.choose-mask.ensures.place_value, c.choose-mask.ensures.to_in_bounds) c.none_left.ensures c.if-right-none_left.false
+pub returns-in_err-form : goal.returns-in_err-form
+returns-in_err-form c = c.from_residual-in_err-form.ensures ∙ operations.read_missed_1 c.args.line.now c.in_ok-selector.selector (c.in_ok-selector.ensures.right_value, c.in_ok-selector.ensures.place_value, c.in_ok-selector.ensures.to_in_bounds) c.in_err-form.ensures.right_value
+
+pub returns-in_err-sink : goal.returns-in_err-sink
+returns-in_err-sink c = c.from_residual-in_err-sink.ensures ∙ operations.read_missed_2 c.args.line.now c.in_ok-selector.selector (c.in_ok-selector.ensures.right_value, c.in_ok-selector.ensures.place_value, c.in_ok-selector.ensures.to_in_bounds) c.in_ok-form.form (c.in_ok-form.ensures.right_value, c.in_ok-form.ensures.place_value, c.in_ok-form.ensures.to_in_bounds) c.in_err-sink.ensures.right_value
+
+pub returns-in_err-mask : goal.returns-in_err-mask
+returns-in_err-mask c = c.from_residual-in_err-mask.ensures ∙ operations.read_missed_3 c.args.line.now c.in_ok-selector.selector (c.in_ok-selector.ensures.right_value, c.in_ok-selector.ensures.place_value, c.in_ok-selector.ensures.to_in_bounds) c.in_ok-form.form (c.in_ok-form.ensures.right_value, c.in_ok-form.ensures.place_value, c.in_ok-form.ensures.to_in_bounds) c.in_ok-sink.sink (c.in_ok-sink.ensures.right_value, c.in_ok-sink.ensures.place_value, c.in_ok-sink.ensures.to_in_bounds) c.in_err-mask.ensures.right_value
+
+pub returns-then-not-none_left : goal.returns-then-not-none_left
+returns-then-not-none_left c = operations.read_more c.args.line.now c.in_ok-selector.selector (c.in_ok-selector.ensures.right_value, c.in_ok-selector.ensures.place_value, c.in_ok-selector.ensures.to_in_bounds) c.in_ok-form.form (c.in_ok-form.ensures.right_value, c.in_ok-form.ensures.place_value, c.in_ok-form.ensures.to_in_bounds) c.in_ok-sink.sink (c.in_ok-sink.ensures.right_value, c.in_ok-sink.ensures.place_value, c.in_ok-sink.ensures.to_in_bounds) c.in_ok-mask.mask (c.in_ok-mask.ensures.right_value, c.in_ok-mask.ensures.place_value, c.in_ok-mask.ensures.to_in_bounds) _ c.none_left.ensures (search rules)
+
+pub returns : goal.returns
+returns c = operations.read_is c.args.line.now c.in_ok-selector.selector (c.in_ok-selector.ensures.right_value, c.in_ok-selector.ensures.place_value, c.in_ok-selector.ensures.to_in_bounds) c.in_ok-form.form (c.in_ok-form.ensures.right_value, c.in_ok-form.ensures.place_value, c.in_ok-form.ensures.to_in_bounds) c.in_ok-sink.sink (c.in_ok-sink.ensures.right_value, c.in_ok-sink.ensures.place_value, c.in_ok-sink.ensures.to_in_bounds) c.in_ok-mask.mask (c.in_ok-mask.ensures.right_value, c.in_ok-mask.ensures.place_value, c.in_ok-mask.ensures.to_in_bounds) _ c.none_left.ensures (search rules) c.selector_at.ensures c.form_at.ensures c.sink_at.ensures c.mask_at.ensures
