@@ -11,7 +11,7 @@ use lib.Pow.{pow_pos, pow-lt, pow_mono, shl_lt}
 use borrow.Author.Tests.{lt-leb}
 use Rattle.laws.specs.Bits.{pick}
 use Rattle.machine.specs.declared.ResponseBit.{ResponseBit}
-use Rattle.machine.specs.declared.Check.TheVariants.{Passed}
+use Rattle.std.specs.Prelude.{Ok}
 use Rattle.machine.specs.Machine.{Machine, syllables}
 use Rattle.machine.specs.Refusals.{too_wide, bad_panel, bad_codes, bad_lines, bad_address, machine_check, pulse_check}
 use Rattle.machine.proofs.Search.{all_unmixed}
@@ -94,14 +94,14 @@ module _ (n : ℕ) (o : Job) where
   either true x y h g = h
   either false x y h g = g
 
-  pub taken : held_check n o ≡ Passed → Taken n (command o)
+  pub taken : held_check n o ≡ Ok tt → Taken n (command o)
   unfolding command
   taken h =
       let f = fair n o h in
       either (eqb o.phase 0) _ _ (quiet o.key o.care o.x)
       (either (eqb o.phase 1) _ _ (trial_taken (kind_of o.kind) f) (second_taken (kind_of o.kind) f))
 
-pub passes : (m : Machine) (o : Job) → machine_check m ≡ Passed → held_check m.width o ≡ Passed → pulse_check m (command o).panel (command o).lines ≡ Passed
+pub passes : (m : Machine) (o : Job) → machine_check m ≡ Ok tt → held_check m.width o ≡ Ok tt → pulse_check m (command o).panel (command o).lines ≡ Ok tt
 unfolding pulse_check
 passes m o h g =
     let t = taken m.width o g in rw (h, t.panel, t.codes, t.lines, t.address (length m.words))

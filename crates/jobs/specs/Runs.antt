@@ -1,10 +1,10 @@
 -- Document 01, 'Jobs': a job's steps one after the other, where nothing but its steps changes the machine.
-use Rattle.std.specs.Prelude.{ℕ, zero, suc, List}
+use Rattle.std.specs.Prelude.{ℕ, zero, suc, List, Result, Ok, Err}
 use Rattle.laws.specs.Bits.{pick}
 use Rattle.machine.specs.Machine.{Machine, machine}
-use Rattle.job_plans.specs.declared.Held.{Held}
+use Rattle.machine.specs.declared.Refusal.{Refusal}
+use Rattle.job_plans.specs.Fields.{Held}
 use Rattle.jobs.specs.declared.Stepped.{Stepped}
-use Rattle.jobs.specs.declared.Stepped.TheVariants as answer
 use Rattle.jobs.specs.Calls.{is_held, step_of, after_step}
 
 -- the machine and its held job
@@ -16,9 +16,9 @@ pub record State : Type 0 where
 abbrev pub state : ℕ → List ℕ → List ℕ → Held → State
 state n ws rs h = record { machine = machine n ws rs; held = h }
 
-abbrev pub held_after : Stepped → Held → Held
-held_after (answer.Gave k c h) old = h
-held_after (answer.Refused r) old = old
+abbrev pub held_after : Result Stepped Refusal → Held → Held
+held_after (Ok s) old = s.held
+held_after (Err r) old = old
 
 -- what stands after one step
 unfoldable pub stepped : State → State

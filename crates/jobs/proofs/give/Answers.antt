@@ -1,7 +1,6 @@
 use Rattle.machine.specs.Machine.{machine}
 use Rattle.job_plans.proofs.Places as standing
 use Rattle.jobs.proofs.Calls as giving
-use borrow.Author.Rules.{rules}
 use Rattle.jobs.proofs.give.Goals as goal
 
 pub command_of-command-requires : goal.command_of-command-requires
@@ -24,14 +23,3 @@ next_of-requires c =
     let a = c.args in
     let m = machine a.width a.words.now a.responses.now in
     standing.few m a.o c.requires
-
-pub returns : goal.returns
-returns c =
-    let a = c.args in
-    let m = machine a.width a.words.now a.responses.now in
-    let k = c.command_of-command in
-    let g = c.give-count in let q = giving.gave_is m a.o k.result k.ensures g.result c.next_of.result _ _ g.ensures.value c.next_of.ensures g.ensures.words_after g.ensures.responses_after in record {
-      value = q.0;
-      words_after = q.1.0;
-      responses_after = q.1.1;
-    }
