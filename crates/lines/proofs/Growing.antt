@@ -1,5 +1,5 @@
 -- A line that grows, byte by byte and piece by piece.
-use Prim.Native.Nat.{ℕ, suc, ◌+◌, ◌-◌, ◌<◌, ◌≤◌, min}
+use Prim.Native.Nat.{ℕ, suc, ◌+◌, ◌<◌, ◌≤◌, min}
 use mathlib.Core.Bool.{Bool, true, false, not, ◌&&◌, ◌||◌}
 use mathlib.Core.Path.{◌≡◌, refl, ap, sym, ◌∙◌}
 use mathlib.Core.List.{List, [], ◌∷◌, ◌++◌, append_assoc, append-nil}
@@ -105,6 +105,10 @@ pub grows_all : (s : List ℕ) (i : ℕ) (l₀ l₁ : Line) (k₀ k₁ : List �
 grows_all s i l₀ l₁ k₀ k₁ e f lent t h = rw (← e, take-length) at (f lent t h)
 
 -- up to the first newline, whose place was found
-pub grows_part : (p : List ℕ) (n : ℕ) (l₀ l₁ : Line) (k₀ k₁ : List ℕ) → n ≡ before_newline p → Grows (take (n - 0) p) l₀ k₀ l₁ k₁ →
+pub grows_part : (p : List ℕ) (n : ℕ) (l₀ l₁ : Line) (k₀ k₁ : List ℕ) → n ≡ before_newline p → Grows (take n p) l₀ k₀ l₁ k₁ →
     Grows (up_to_newline p) l₀ k₀ l₁ k₁
-grows_part p n l₀ l₁ k₀ k₁ e f lent t h = let e' : n - 0 ≡ before_newline p = omega (arith, e) in rw e' at (f lent t h)
+grows_part p n l₀ l₁ k₀ k₁ e f lent t h = rw e at (f lent t h)
+
+-- all of them, where there is none
+pub grows_whole : (p : List ℕ) (l₀ l₁ : Line) (k₀ k₁ : List ℕ) → before_newline p ≡ length p → Grows p l₀ k₀ l₁ k₁ → Grows (up_to_newline p) l₀ k₀ l₁ k₁
+grows_whole p l₀ l₁ k₀ k₁ e f lent t h = rw (e, take-length) (f lent t h)

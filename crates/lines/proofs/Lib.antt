@@ -1,4 +1,3 @@
 -- laws that the functions' proofs cite
 pub mod Growing
 pub mod Onward
-pub mod FirstByte

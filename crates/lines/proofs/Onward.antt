@@ -1,7 +1,7 @@
 -- A line that goes on with pieces that have no newline, from one read to the next.
 use Prim.Native.Nat.{ℕ, ◌+◌, ◌<◌, ◌≤◌}
 use mathlib.Core.Bool.{Bool, true, false, ◌&&◌}
-use mathlib.Core.Path.{◌≡◌, refl, ap, sym, ◌∙◌}
+use mathlib.Core.Path.{◌≡◌, refl, ap, ◌∙◌}
 use mathlib.Core.List.{List, [], ◌∷◌, ◌++◌}
 use native.Mathlib.Numerals.{add-one}
 use native.Mathlib.Omega.{arith}
@@ -12,12 +12,11 @@ use lib.Seq.{take-length, take-nil, take-append-le}
 use Rattle.laws.specs.Bits.{pick}
 use Rattle.laws.specs.Lists.{all}
 use Rattle.text.specs.Words.{ahead}
-use Rattle.lines.specs.Input.{is_plain, before_newline, line_of, kept_of, unread, first_line, Whole, behind_newline, Taken}
+use Rattle.lines.specs.Input.{is_plain, before_newline, kept_of, unread, first_line, Whole, behind_newline, Taken}
 use Rattle.lines.specs.Pieces.{Holds, between, up_to_newline, behind}
 use Rattle.lines.proofs.Growing.{Grows, grows_none}
 use Rattle.lines.specs.declared.Reader.{Reader}
 use Rattle.lines.specs.declared.Line.{Line}
-use Rattle.lines.specs.declared.Got.{Got}
 
 -- ---- bytes that all pass a test
 
@@ -80,48 +79,29 @@ module _ (reader : Reader) (chunk : List ℕ) where
       (omega (arith, ltb-true reader.from reader.to b.0), leb-true reader.to (length chunk) b.1)
 
   -- what one turn promises: it takes the rest of the line that was read, and knows where that has its end
-  abbrev pub Turned : Line → List ℕ → List ℕ → Got → List ℕ → Type 0
-  Turned line kept chunk' got kept' =
-      (Grows (first_line reader chunk) line kept got.line kept' ×
-      (Whole reader chunk → (got.reader ≡ behind_newline reader chunk) × ((got.whole ≡ true) × (chunk' ≡ chunk))))
+  abbrev pub Turned : Line → List ℕ → List ℕ → Reader → Line → Bool → List ℕ → Type 0
+  Turned line kept chunk' reader' line' whole kept' =
+      (Grows (first_line reader chunk) line kept line' kept' ×
+      (Whole reader chunk → (reader' ≡ behind_newline reader chunk) × ((whole ≡ true) × (chunk' ≡ chunk))))
 
-  pub turned_left : ltb reader.from reader.to && leb reader.to (length chunk) ≡ true → (line : Line) (kept : List ℕ) (got : Got) (kept' : List ℕ) →
-      Grows (up_to_newline (between reader.from reader.to chunk)) line kept got.line kept' →
+  pub turned_left : ltb reader.from reader.to && leb reader.to (length chunk) ≡ true → (line : Line) (kept : List ℕ) (reader' : Reader) (line' : Line) (whole : Bool) (kept' : List ℕ) →
+      Grows (up_to_newline (between reader.from reader.to chunk)) line kept line' kept' →
       (before_newline (between reader.from reader.to chunk) < length (between reader.from reader.to chunk) →
-      (got.reader ≡ behind reader.from reader.to (between reader.from reader.to chunk)) × (got.whole ≡ true)) →
-      Turned line kept chunk got kept'
-  turned_left e line kept got kept' g w = rw e (g, λ h. ((w h).0, ((w h).1, refl)))
+      (reader' ≡ behind reader.from reader.to (between reader.from reader.to chunk)) × (whole ≡ true)) →
+      Turned line kept chunk reader' line' whole kept'
+  turned_left e line kept reader' line' whole kept' g w = rw e (g, λ h. ((w h).0, ((w h).1, refl)))
 
-  pub turned_none : ltb reader.from reader.to && leb reader.to (length chunk) ≡ false → (line : Line) (kept chunk' : List ℕ) (got : Got) →
-      got.line ≡ line → Turned line kept chunk' got kept
-  turned_none e line kept chunk' got f = rw (e, f) (rw (take-nil (before_newline [])) (grows_none line kept), λ h. let z : ⊥ = omega arith in absurd z)
+  pub turned_none : ltb reader.from reader.to && leb reader.to (length chunk) ≡ false → (line : Line) (kept chunk' : List ℕ) (reader' : Reader) (whole : Bool) →
+      Turned line kept chunk' reader' line whole kept
+  turned_none e line kept chunk' reader' whole = rw e (rw (take-nil (before_newline [])) (grows_none line kept), λ h. let z : ⊥ = omega arith in absurd z)
 
--- ---- turn after turn, from the first on
+-- ---- turn after turn: the first begins an empty line
 
-pub record Going (chunk₀ kept₀ : List ℕ) (got₀ : Got) (chunk kept : List ℕ) (got : Got) : Type 0 where
-  -- a line that the first turn ends is not gone on with
-  pub settled : got₀.whole ≡ true → (got ≡ got₀) × ((chunk ≡ chunk₀) × (kept ≡ kept₀))
-  pub onward : (lent first : List ℕ) → Onward lent first got₀.line kept₀ → Onward lent first got.line kept
+pub begun : (lent : List ℕ) (reader : Reader) (chunk : List ℕ) (line line' : Line) (kept' : List ℕ) → Holds lent [] line lent →
+    Grows (first_line reader chunk) line lent line' kept' → Onward lent (first_line reader chunk) line' kept'
+begun lent reader chunk line line' kept' h g = onward_first lent (first_line reader chunk) line' kept' (first_plain reader chunk) (g lent [] h)
 
-pub going_first : (chunk kept : List ℕ) (got : Got) → Going chunk kept got chunk kept got
-going_first chunk kept got = record { settled = λ e. (refl, (refl, refl)); onward = λ lent first h. h }
-
-module _ (chunk₀ kept₀ : List ℕ) (got₀ : Got) (chunk kept : List ℕ) (got : Got) (so_far : Going chunk₀ kept₀ got₀ chunk kept got) where
-  pub going_more : got.whole ≡ false → (chunk' kept' : List ℕ) (got' : Got) → Turned got.reader chunk got.line kept chunk' got' kept' →
-      Going chunk₀ kept₀ got₀ chunk' kept' got'
-  going_more e chunk' kept' got' t =
-      record {
-        settled = λ f. let z : ◌≡◌ {A = Bool} false true = sym e ∙ (ap (λ (g : Got). g.whole) (so_far.settled f).0 ∙ f) in absurd (unlike z);
-        onward = λ lent first h. onward_more lent first (first_line got.reader chunk) got.line got'.line kept kept' (first_plain got.reader chunk) t.0 (so_far.onward lent first h);
-      }
-
-  -- all turns from an empty line: what `next` promises
-  pub gone : (reader : Reader) (lent_chunk lent : List ℕ) (line : Line) → Holds lent [] line lent → Turned reader lent_chunk line lent chunk₀ got₀ kept₀ →
-      ((Whole reader lent_chunk → (got.reader ≡ behind_newline reader lent_chunk) × ((got.line ≡ line_of (length lent) (first_line reader lent_chunk)) × ((kept ≡ kept_of (first_line reader lent_chunk) lent) × (chunk ≡ lent_chunk)))) ×
-      Onward lent (first_line reader lent_chunk) got.line kept)
-  gone reader lent_chunk lent line h t =
-      let k : Holds lent (first_line reader lent_chunk) got₀.line kept₀ = t.0 lent [] h in (
-        λ w. let s = so_far.settled (t.1 w).1.0 in
-            (ap (λ (g : Got). g.reader) s.0 ∙ (t.1 w).0, (ap (λ (g : Got). g.line) s.0 ∙ k.line_is, (s.1.1 ∙ k.kept_is, s.1.0 ∙ (t.1 w).1.1))),
-        so_far.onward lent (first_line reader lent_chunk) (onward_first lent (first_line reader lent_chunk) got₀.line kept₀ (first_plain reader lent_chunk) k),
-      )
+-- a turn more
+pub gone_on : (lent first : List ℕ) (reader : Reader) (chunk : List ℕ) (line line' : Line) (kept kept' : List ℕ) →
+    Grows (first_line reader chunk) line kept line' kept' → Onward lent first line kept → Onward lent first line' kept'
+gone_on lent first reader chunk line line' kept kept' g o = onward_more lent first (first_line reader chunk) line line' kept kept' (first_plain reader chunk) g o

@@ -1,22 +1,14 @@
-use Rattle.lines.proofs.Onward.{going_first, going_more, gone}
-use borrow.Author.Tests.{not-true}
-use borrow.Author.Rules.{rules}
+use Rattle.lines.proofs.Onward.{begun, gone_on}
 use Rattle.lines.proofs.next.Goals as goal
 
-pub loop-turns-init : goal.loop-turns-init
-loop-turns-init g c = (search rules, search rules, going_first _ _ _)
+pub returns-then-more-clause-by_index : goal.returns-then-more-clause-by_index
+returns-then-more-clause-by_index g c = let a = c.args in let m = c.more in begun a.kept.now a.reader.now a.chunk.now _ _ _ (c.empty-line.ensures a.kept.now) m.ensures.by_index
 
-pub loop-turns-preserved : goal.loop-turns-preserved
-loop-turns-preserved g c = (search rules, search rules, going_more _ _ _ _ _ _ c.loop-turns.invariant.2 (not-true _ c.if-not-got.true) _ _ _ (c.more-got-in-loop-turns.ensures.by_index, c.more-got-in-loop-turns.ensures.reader_value))
+pub loop-init : goal.loop-init
+loop-init g c = let a = c.args in let m = c.more in begun a.kept.now a.reader.now a.chunk.now _ _ _ (c.empty-line.ensures a.kept.now) m.ensures.by_index
 
-pub returns-else-not-got : goal.returns-else-not-got
-returns-else-not-got g c = let a = c.args in let q = gone _ _ _ _ _ _ c.loop-turns.invariant.2 a.reader a.chunk.now a.kept.now _ (c.empty.ensures a.kept.now) (c.more-got.ensures.by_index, c.more-got.ensures.reader_value) in record {
-  reader_value = q.0;
-  by_index = q.1;
-}
+pub returns-then-more-2-clause-by_index : goal.returns-then-more-2-clause-by_index
+returns-then-more-2-clause-by_index g c = gone_on _ _ c.loop.reader c.loop.chunk _ _ _ _ c.more-in-loop.ensures.by_index c.loop.invariant
 
-pub returns-after-loop-turns : goal.returns-after-loop-turns
-returns-after-loop-turns g c = let a = c.args in let q = gone _ _ _ _ _ _ c.loop-turns.invariant.2 a.reader a.chunk.now a.kept.now _ (c.empty.ensures a.kept.now) (c.more-got.ensures.by_index, c.more-got.ensures.reader_value) in record {
-  reader_value = q.0;
-  by_index = q.1;
-}
+pub loop-preserved : goal.loop-preserved
+loop-preserved g c = gone_on _ _ c.loop.reader c.loop.chunk _ _ _ _ c.more-in-loop.ensures.by_index c.loop.invariant

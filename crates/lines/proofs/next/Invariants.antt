@@ -1,10 +1,6 @@
-use mathlib.Core.Path.{◌≡◌}
-use lib.ListN.{length}
-use Rattle.lines.proofs.Onward.{Going}
+use Rattle.lines.specs.Input.{first_line}
+use Rattle.lines.proofs.Onward.{Onward}
 use Rattle.lines.proofs.next.Given as goal
 
-abbrev pub invariant-loop-turns : goal.invariant-loop-turns
-invariant-loop-turns g l = (length l.chunk ≡ length l.initial.chunk) × (length l.kept ≡ length l.initial.kept) × Going l.initial.chunk l.initial.kept l.initial.got l.chunk l.kept l.got
-
-abbrev pub decreases-loop-turns : goal.decreases-loop-turns
-decreases-loop-turns g l = l.turns
+abbrev pub invariant-loop : goal.invariant-loop
+invariant-loop g l = Onward l.fn.kept (first_line l.fn.reader l.fn.chunk) l.line l.kept
