@@ -6,7 +6,6 @@ use mathlib.Core.Logic.{⊎_elim}
 use mathlib.Core.List.{List, [], ◌∷◌}
 use native.Mathlib.Omega.{arith}
 use lib.ListN.{length, get_or}
-use lib.Pow.{pow_pos}
 use Rattle.laws.specs.Bits.{bit}
 use Rattle.laws.proofs.Digits.{tri}
 use Rattle.laws.proofs.Bits.{bit_none}
@@ -20,7 +19,7 @@ use Rattle.job_tally.specs.Totals.{sum_below, ones, zeros, value_of, values, gre
 use Rattle.ends.specs.Ends.{Accepted, word, chosen, from_top, commands_of, IsGreatest, IsSmallest, NoneChosen, Alike}
 use Rattle.ends.proofs.Parts.{value_lt}
 use Rattle.ends.proofs.Machines.{same}
-use Rattle.ends.proofs.Best.{greatest_bounds, greatest_has, smallest_le, smallest_bounds, smallest_has}
+use Rattle.ends.proofs.Best.{greatest_bounds, greatest_has, smallest_bounds, smallest_has}
 use Rattle.ends.proofs.Starts.{begins}
 use Rattle.ends.proofs.Plans.{held}
 use Rattle.ends.proofs.Greatest.{greatest_commands, greatest_pulses}

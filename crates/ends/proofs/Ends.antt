@@ -2,14 +2,13 @@
 use Prim.Native.Nat.{ℕ, zero, suc, ◌+◌, ◌<◌}
 use mathlib.Core.Path.{◌≡◌, refl, ap, ◌∙◌}
 use native.Mathlib.Omega.{arith}
+use Rattle.std.specs.Prelude.{Some, None}
 use Rattle.laws.specs.Bits.{pick}
 use Rattle.machine.specs.Machine.{Machine}
 use Rattle.machine.specs.Refusals.{after}
 use Rattle.job_plans.specs.declared.Job.{Job}
-use Rattle.job_plans.specs.declared.Held.{Held}
-use Rattle.job_plans.specs.declared.Held.TheVariants.{Nothing, Holds}
 use Rattle.job_plans.specs.declared.Command.{Command}
-use Rattle.job_plans.specs.Fields.{Kind, greatest, smallest, scaledAdd, product, unknown, kind_of, used_check}
+use Rattle.job_plans.specs.Fields.{Held, Kind, greatest, smallest, scaledAdd, product, unknown, kind_of, used_check}
 use Rattle.job_plans.specs.Places.{first}
 use Rattle.job_tally.specs.Totals.{pulses}
 use Rattle.jobs.specs.Calls.{is_held}
@@ -35,7 +34,7 @@ module _ (m : Machine) (o : Job) (accepted : Accepted m o) where
       go unknown e = let h = (begins m o accepted).used in let z : ◌≡◌ {A = ℕ} 0 1 = cc (rw e at h) in absurd (omega arith)
 
   -- not over before the last pulse
-  pub not_over : (k : ℕ) → k < pulses m (first o) → (steps k (begun m o)).held ≡ Nothing → ⊥
+  pub not_over : (k : ℕ) → k < pulses m (first o) → (steps k (begun m o)).held ≡ None → ⊥
   not_over k h e = held_given (steps k (begun m o)).machine (steps k (begun m o)).held (course.gives k h).answers e
 
   -- "A job step answers the command it gave, and the machine after it is that command's pulse": each machine is the pulse of the one before it
@@ -44,18 +43,18 @@ module _ (m : Machine) (o : Job) (accepted : Accepted m o) where
   each_pulse k h = ap (λ (s : State). s.machine) (steps_last k (begun m o)) ∙ (course.gives k h).leaves
 
   -- further steps are refused, and change nothing
-  pub stays_over : (k : ℕ) → steps (pulses m (first o) + k) (begun m o) ≡ on (ended m o) Nothing
+  pub stays_over : (k : ℕ) → steps (pulses m (first o) + k) (begun m o) ≡ on (ended m o) None
   stays_over k =
       steps_on (pulses m (first o)) k (begun m o)
       ∙ ap (λ (h : Held). steps k (on (ended m o) h)) course.over
       ∙ steps_idle k (ended m o)
 
   -- the number of steps given until no job is held
-  goes_on : (h : Held) (k : ℕ) → (h ≡ Nothing → ⊥) → pick (is_held h) (suc k) 0 ≡ suc k
-  goes_on Nothing k n = absurd (n refl)
-  goes_on (Holds q) k n = refl
+  goes_on : (h : Held) (k : ℕ) → (h ≡ None → ⊥) → pick (is_held h) (suc k) 0 ≡ suc k
+  goes_on None k n = absurd (n refl)
+  goes_on (Some q) k n = refl
 
-  taken : (c : ℕ → Command) (k most : ℕ) (s : State) → ((j : ℕ) → j < k → Gives (c j) (steps j s)) → (steps k s).held ≡ Nothing → k < most
+  taken : (c : ℕ → Command) (k most : ℕ) (s : State) → ((j : ℕ) → j < k → Gives (c j) (steps j s)) → (steps k s).held ≡ None → k < most
       → steps_taken most s ≡ k
   unfolding steps steps_taken
   taken c k zero s g e h = absurd (omega arith)

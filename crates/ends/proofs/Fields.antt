@@ -6,9 +6,9 @@ use mathlib.Core.Logic.{inl, inr}
 use native.Mathlib.Omega.{arith}
 use lib.Dec.{ltb}
 use borrow.Author.Tests.{ltb-false, eqb-false}
+use Rattle.std.specs.Prelude.{Ok}
 use Rattle.laws.specs.Bits.{bit}
 use Rattle.machine.specs.declared.ResponseBit.{ResponseBit}
-use Rattle.machine.specs.declared.Check.TheVariants.{Passed}
 use Rattle.machine.specs.Machine.{response_bits}
 use Rattle.job_plans.specs.declared.Span.{Span}
 use Rattle.job_plans.specs.declared.Job.{Job}
@@ -45,7 +45,7 @@ pub record ExtremeFields (n : ℕ) (o : Job) : Type 0 where
   pub differ : o.x.0 ≡ o.y.0 → ⊥
   pub a : Inside n o.a
 
-pub extreme_fields : (n : ℕ) (o : Job) → extreme_check n o ≡ Passed → ExtremeFields n o
+pub extreme_fields : (n : ℕ) (o : Job) → extreme_check n o ≡ Ok tt → ExtremeFields n o
 extreme_fields n o h =
     let f = fair.extreme_fields n o h in
     record { x_works = working o.care o.x f.x_bit; y_works = working o.care o.y f.y_bit; differ = f.apart; a = f.a }
@@ -59,7 +59,7 @@ pub record AddFields (n : ℕ) (o : Job) : Type 0 where
 adding : (n : ℕ) (o : Job) → fair.ScaledFields n o → AddFields n o
 adding n o f = record { y_works = working o.care o.y f.y_bit; a = f.a; p = f.p; a_apart = apart o.p o.a f.apart }
 
-pub add_fields : (n : ℕ) (o : Job) → scaled_add_check n o ≡ Passed → AddFields n o
+pub add_fields : (n : ℕ) (o : Job) → scaled_add_check n o ≡ Ok tt → AddFields n o
 add_fields n o h = adding n o (fair.scaled_fields n o h)
 
 pub record ProductFields (n : ℕ) (o : Job) : Type 0 where
@@ -67,7 +67,7 @@ pub record ProductFields (n : ℕ) (o : Job) : Type 0 where
   pub b : Inside n o.b
   pub b_apart : Apart o.p o.b
 
-pub product_fields : (n : ℕ) (o : Job) → product_check n o ≡ Passed → ProductFields n o
+pub product_fields : (n : ℕ) (o : Job) → product_check n o ≡ Ok tt → ProductFields n o
 product_fields n o h =
     let f = fair.product_fields n o h in
     record { both = adding n o f.both; b = f.b; b_apart = apart o.p o.b f.apart }

@@ -6,13 +6,12 @@ use native.Mathlib.Nat.{mod-lt}
 use native.Mathlib.Omega.{arith}
 use lib.Dec.{ltb, eqb}
 use borrow.Author.Tests.{eqb-true}
+use Rattle.std.specs.Prelude.{Ok, Some}
 use Rattle.laws.specs.Bits.{bit, digit}
-use Rattle.machine.specs.declared.Check.TheVariants.{Passed}
 use Rattle.machine.specs.declared.ResponseBit.{ResponseBit}
 use Rattle.machine.specs.Machine.{Machine}
 use Rattle.job_plans.specs.declared.Span.{Span}
 use Rattle.job_plans.specs.declared.Job.{Job}
-use Rattle.job_plans.specs.declared.Held.TheVariants.{Holds}
 use Rattle.job_plans.specs.Fields.{Kind, greatest, smallest, scaledAdd, product, unknown, kind_of, job, is_zero, unused_zero_for}
 use Rattle.job_plans.specs.Places.{none, first_for, first, at_first, held_check, step_check}
 use Rattle.job_plans.proofs.Fair.{and_true, Fair, fair, extreme_fields, scaled_fields, product_fields}
@@ -59,7 +58,7 @@ module _ (o : Job) where
       placed 0 o.b o.p 1 0 0 0 (eqb-true _ _ c.0) refl refl ef ei ej (eqb-true _ _ c.1)
   at_first_lem unknown z ef ei ej = refl
 
-pub is_first : (n : ℕ) (o : Job) → held_check n o ≡ Passed → at_first o ≡ true → o ≡ first o
+pub is_first : (n : ℕ) (o : Job) → held_check n o ≡ Ok tt → at_first o ≡ true → o ≡ first o
 unfolding first
 is_first n o h e =
     let k = kind_of o.kind in
@@ -86,7 +85,7 @@ one_digit : (b : Bool) → digit b ≤ 1
 one_digit true = omega arith
 one_digit false = omega arith
 
-pub few_pulses : (m : Machine) (o : Job) → step_check m (Holds o) ≡ Passed → pulses m o ≤ 8192
+pub few_pulses : (m : Machine) (o : Job) → step_check m (Some o) ≡ Ok tt → pulses m o ≤ 8192
 unfolding pulses
 few_pulses m o ok = go (kind_of o.kind) (fair m.width o (fair_held m o ok))
   where

@@ -1,5 +1,5 @@
 -- Greatest of A: X marks the selected words with the greatest value, after 1 + a pulses and one for each 1 of that value.
-use Prim.Native.Nat.{ℕ, ◌+◌, ◌-◌, ◌^◌, ◌<◌}
+use Prim.Native.Nat.{ℕ, ◌+◌, ◌^◌, ◌<◌}
 use mathlib.Core.Path.{◌≡◌, refl, sym, ap, ap₂, ◌∙◌}
 use mathlib.Core.List.{List, ◌∷◌}
 use native.Mathlib.Nat.{div-one}
@@ -7,9 +7,9 @@ use native.Mathlib.Omega.{arith}
 use lib.Dec.{eqb}
 use lib.ListN.{length}
 use lib.Pow.{pow_pos}
+use Rattle.std.specs.Prelude.{Ok}
 use Rattle.laws.specs.Bits.{bit}
 use Rattle.laws.proofs.Bits.{digit_at}
-use Rattle.machine.specs.declared.Check.TheVariants.{Passed}
 use Rattle.machine.specs.Machine.{Machine}
 use Rattle.job_plans.specs.declared.Job.{Job}
 use Rattle.job_plans.specs.Fields.{greatest, kind_of, extreme_check, used_check}
@@ -35,7 +35,7 @@ module _ (m : Machine) (o : Job) (accepted : Accepted m o) (kind : kind_of o.kin
   abbrev top : ℕ
   top = greatest_of (values o m.words m.responses)
 
-  used : extreme_check m.width (held o) ≡ Passed
+  used : extreme_check m.width (held o) ≡ Ok tt
   unfolding used_check extreme_check
   used = rw kind at (begins m o accepted).used
 

@@ -6,12 +6,11 @@ use mathlib.Core.List.{List, [], ◌∷◌}
 use native.Mathlib.Omega.{arith}
 use lib.ListN.{length, get_or}
 use borrow.Author.Tests.{lt-leb, leb-false}
+use Rattle.std.specs.Prelude.{Ok, Some, None}
 use Rattle.laws.specs.Bits.{pick}
 use Rattle.laws.proofs.Lists.{length_zip, at_zip}
 use Rattle.machine.specs.declared.Panel.{Panel}
 use Rattle.machine.specs.declared.Lines.{Lines}
-use Rattle.machine.specs.declared.Found.TheVariants.{At, Nothing}
-use Rattle.machine.specs.declared.Check.TheVariants.{Passed}
 use Rattle.machine.specs.Machine.{Machine}
 use Rattle.machine.specs.Pulse.{word_after, response_after, pulsed}
 use Rattle.machine.specs.Resolution.{lowest}
@@ -21,25 +20,25 @@ use Rattle.ends.specs.Ends.{word, response}
 
 -- ---- words of the machine's width
 
-pub words_fit : (n j : ℕ) (ws : List ℕ) → lowest (too_wide n) j ws ≡ Nothing → (k : ℕ) → k < length ws → get_or ws k 0 < 2 ^ n
+pub words_fit : (n j : ℕ) (ws : List ℕ) → lowest (too_wide n) j ws ≡ None → (k : ℕ) → k < length ws → get_or ws k 0 < 2 ^ n
 unfolding lowest
 words_fit n j [] e k h = absurd (omega arith)
 words_fit n j (w ∷ ws) e k h = go (too_wide n w) refl e k h (λ f i l. words_fit n (suc j) ws f i l)
   where
-    go : (t : Bool) → too_wide n w ≡ t → pick t (At (record { 0 = j })) (lowest (too_wide n) (suc j) ws) ≡ Nothing → (k : ℕ) → k < length (w ∷ ws)
-        → (lowest (too_wide n) (suc j) ws ≡ Nothing → (i : ℕ) → i < length ws → get_or ws i 0 < 2 ^ n) → get_or (w ∷ ws) k 0 < 2 ^ n
+    go : (t : Bool) → too_wide n w ≡ t → pick t (Some (record { 0 = j })) (lowest (too_wide n) (suc j) ws) ≡ None → (k : ℕ) → k < length (w ∷ ws)
+        → (lowest (too_wide n) (suc j) ws ≡ None → (i : ℕ) → i < length ws → get_or ws i 0 < 2 ^ n) → get_or (w ∷ ws) k 0 < 2 ^ n
     go true d f k h later = let z : ◌≡◌ {A = ℕ} 0 1 = cc in absurd (omega arith)
     go false d f zero h later = leb-false (2 ^ n) w d
     go false d f (suc k) h later = later f k (omega arith)
 
-pub fit_words : (n j : ℕ) (ws : List ℕ) → ((k : ℕ) → k < length ws → get_or ws k 0 < 2 ^ n) → lowest (too_wide n) j ws ≡ Nothing
+pub fit_words : (n j : ℕ) (ws : List ℕ) → ((k : ℕ) → k < length ws → get_or ws k 0 < 2 ^ n) → lowest (too_wide n) j ws ≡ None
 unfolding lowest
 fit_words n j [] h = refl
 fit_words n j (w ∷ ws) h = rw (lt-leb (2 ^ n) w (h 0 (omega arith))) (fit_words n (suc j) ws (λ k l. h (suc k) (omega arith)))
 
 -- ---- a sound machine
 
-pub passes : (m : Machine) → Sound m → machine_check m ≡ Passed
+pub passes : (m : Machine) → Sound m → machine_check m ≡ Ok tt
 unfolding machine_check
 passes m s = rw (s.size, s.width, s.words)
 

@@ -5,10 +5,9 @@ use mathlib.Core.Bool.{true, ◌&&◌, ◌||◌, or-true}
 use native.Mathlib.Omega.{arith}
 use lib.Dec.{ltb, eqb}
 use borrow.Author.Tests.{eq-eqb, lt-ltb}
+use Rattle.std.specs.Prelude.{Ok, Some}
 use Rattle.laws.specs.Bits.{pick}
-use Rattle.machine.specs.declared.Check.TheVariants.{Passed}
 use Rattle.job_plans.specs.declared.Job.{Job}
-use Rattle.job_plans.specs.declared.Held.TheVariants.{Holds}
 use Rattle.job_plans.specs.Fields.{Kind, greatest, smallest, scaledAdd, product, unknown, kind_of, extreme_check, used_check_for, used_check, unused_zero_for, unused_zero}
 use Rattle.job_plans.specs.Places.{in_table_for, in_table, held_check, first, first_for, moved, next_below, after_trial, after_second, next}
 use Rattle.job_plans.specs.Commands.{command, look, bit_of, trial, second}
@@ -62,7 +61,7 @@ second_of : {k : Kind} → Extreme k → (o : Job) → second k o ≡ look (2 ^ 
 second_of most o = refl
 second_of least o = refl
 
-after_trial_of : {k : Kind} → Extreme k → (o : Job) (c : ℕ) → after_trial k o c ≡ pick (eqb c 0) (next_below o o.i) (Holds (moved o 2 o.i 0))
+after_trial_of : {k : Kind} → Extreme k → (o : Job) (c : ℕ) → after_trial k o c ≡ pick (eqb c 0) (next_below o o.i) (Some (moved o 2 o.i 0))
 after_trial_of most o c = refl
 after_trial_of least o c = refl
 
@@ -76,12 +75,12 @@ pub first_is : {k : Kind} (o : Job) → Extreme k → kind_of o.kind ≡ k → f
 unfolding first
 first_is o x kind = rw kind (first_of x o)
 
-module _ (n : ℕ) (o : Job) (k : Kind) (x : Extreme k) (kind : kind_of o.kind ≡ k) (used : extreme_check n (held o) ≡ Passed) where
-  fits : (f i : ℕ) → in_table_for greatest (moved (held o) f i 0) ≡ true → held_check n (moved (held o) f i 0) ≡ Passed
+module _ (n : ℕ) (o : Job) (k : Kind) (x : Extreme k) (kind : kind_of o.kind ≡ k) (used : extreme_check n (held o) ≡ Ok tt) where
+  fits : (f i : ℕ) → in_table_for greatest (moved (held o) f i 0) ≡ true → held_check n (moved (held o) f i 0) ≡ Ok tt
   unfolding held_check used_check unused_zero in_table extreme_check
   fits f i h = rw (kind, used_of x n (moved (held o) f i 0), moved_used, clear_of x o f i, place_of x (moved (held o) f i 0), h)
     where
-      moved_used : extreme_check n (moved (held o) f i 0) ≡ Passed
+      moved_used : extreme_check n (moved (held o) f i 0) ≡ Ok tt
       moved_used = used
 
   some : 0 < o.a.width
@@ -100,7 +99,7 @@ module _ (n : ℕ) (o : Job) (k : Kind) (x : Extreme k) (kind : kind_of o.kind �
     fits = λ f i h l. fits f i (go f i h (lt-ltb i o.a.width l));
   }
     where
-      top : (a : ℕ) → 0 < a → Holds (moved (held o) 1 (a - 1) 0) ≡ next_below (held o) a
+      top : (a : ℕ) → 0 < a → Some (moved (held o) 1 (a - 1) 0) ≡ next_below (held o) a
       top zero h = absurd (omega arith)
       top (suc a) h = let e : suc a - 1 ≡ a = omega arith in rw e
 

@@ -5,11 +5,10 @@ use mathlib.Core.List.{List}
 use lib.ListN.{length}
 use native.Mathlib.Omega.{arith}
 use lib.Dec.{ltb}
+use Rattle.std.specs.Prelude.{Ok, Some}
 use Rattle.laws.specs.Bits.{digit}
-use Rattle.machine.specs.declared.Check.TheVariants.{Passed}
 use Rattle.machine.specs.Machine.{Machine}
 use Rattle.job_plans.specs.declared.Job.{Job}
-use Rattle.job_plans.specs.declared.Held.TheVariants.{Holds}
 use Rattle.job_plans.specs.declared.Command.{Command}
 use Rattle.job_plans.specs.Fields.{product, kind_of, product_check, used_check}
 use Rattle.job_plans.specs.Places.{first, first_for, moved}
@@ -29,7 +28,7 @@ use Rattle.ends.proofs.Starts.{begins, Whole, whole_course, whole_ended}
 abbrev held : Job → Job
 held o = first_for product o
 
-starts : (b : Job) (k : ℕ) → 0 < k → 0 < row_of b 0 → start b (rows b 0 k) ≡ Holds (moved b 1 0 0)
+starts : (b : Job) (k : ℕ) → 0 < k → 0 < row_of b 0 → start b (rows b 0 k) ≡ Some (moved b 1 0 0)
 unfolding rows
 starts b zero h r = absurd (omega arith)
 starts b (suc k) h r = starts_row b 0 0 (row_of b 0) (rows b 1 k) r
@@ -39,7 +38,7 @@ module _ (m : Machine) (o : Job) (accepted : Accepted m o) (kind : kind_of o.kin
   unfolding first
   first_is = rw kind
 
-  used : product_check m.width (held o) ≡ Passed
+  used : product_check m.width (held o) ≡ Ok tt
   unfolding used_check product_check
   used = rw kind at (begins m o accepted).used
 

@@ -9,12 +9,11 @@ use lib.Dec.{ltb, eqb}
 use lib.Bits.{bit_or}
 use lib.Pow.{pow-lt}
 use borrow.Author.Tests.{lt-ltb, le-ltb, ltb-true}
+use Rattle.std.specs.Prelude.{Ok, Some}
 use Rattle.laws.specs.Bits.{bit, pick}
 use Rattle.laws.proofs.Digits.{Bit, off, on}
 use Rattle.laws.proofs.Bits.{digit_at, or_bit}
-use Rattle.machine.specs.declared.Check.TheVariants.{Passed}
 use Rattle.job_plans.specs.declared.Job.{Job}
-use Rattle.job_plans.specs.declared.Held.TheVariants.{Holds}
 use Rattle.job_plans.specs.Fields.{product, kind_of, product_check, used_check, unused_zero}
 use Rattle.job_plans.specs.Places.{in_table, held_check, moved, next_above, next_within, next}
 use Rattle.job_plans.specs.Commands.{command, bit_of}
@@ -47,7 +46,7 @@ unfoldable pub rows : Job → ℕ → ℕ → List Stop
 rows b i zero = []
 rows b i (suc k) = across b i 0 (row_of b i) (rows b (suc i) k)
 
-pub starts_row : (b : Job) (i j k : ℕ) (qs : List Stop) → 0 < k → start b (across b i j k qs) ≡ Holds (moved b 1 i j)
+pub starts_row : (b : Job) (i j k : ℕ) (qs : List Stop) → 0 < k → start b (across b i j k qs) ≡ Some (moved b 1 i j)
 unfolding across
 starts_row b i j zero qs h = absurd (omega arith)
 starts_row b i j (suc k) qs h = refl
@@ -71,12 +70,12 @@ both_found n s t w hs ht =
     agrees_two n s t w (bit_or (2 ^ s) (2 ^ t)) hs ht
     ∙ ap₂ (λ (x y : ℕ). eqb (bit w s) x && eqb (bit w t) y) (mask_one s t).0 (mask_one s t).1
 
-module _ (n : ℕ) (b : Job) (kind : kind_of b.kind ≡ product) (used : product_check n b ≡ Passed) (clear : (eqb b.x.0 0 && eqb b.c 0) ≡ true) where
+module _ (n : ℕ) (b : Job) (kind : kind_of b.kind ≡ product) (used : product_check n b ≡ Ok tt) (clear : (eqb b.x.0 0 && eqb b.c 0) ≡ true) where
   fields : ProductFields n b
   fields = product_fields n b used
 
   -- the job at a place of its table is in order
-  placed : (f i j : ℕ) → (eqb f 1 || eqb f 2) ≡ true → i < lesser b → j < row_of b i → held_check n (moved b f i j) ≡ Passed
+  placed : (f i j : ℕ) → (eqb f 1 || eqb f 2) ≡ true → i < lesser b → j < row_of b i → held_check n (moved b f i j) ≡ Ok tt
   unfolding held_check used_check unused_zero in_table product_check
   placed f i j h l r =
       rw (
@@ -89,7 +88,7 @@ module _ (n : ℕ) (b : Job) (kind : kind_of b.kind ≡ product) (used : product
         lt-ltb (i + j) b.p.width (omega arith),
       )
     where
-      moved_used : product_check n (moved b f i j) ≡ Passed
+      moved_used : product_check n (moved b f i j) ≡ Ok tt
       moved_used = used
 
   good : (i j : ℕ) → i < lesser b → j < row_of b i → Good n b (stop b i j)
@@ -111,14 +110,14 @@ module _ (n : ℕ) (b : Job) (kind : kind_of b.kind ≡ product) (used : product
   second_is i j c = rw kind refl
 
   -- "and within it j from 0 below b, with i+j below p"
-  within_more : (i j : ℕ) → suc j < row_of b i → next_within (moved b 2 i j) ≡ Holds (moved b 1 i (suc j))
+  within_more : (i j : ℕ) → suc j < row_of b i → next_within (moved b 2 i j) ≡ Some (moved b 1 i (suc j))
   within_more i j h = rw (add-one j, lt-ltb (suc j) b.b.width (omega arith), lt-ltb (i + suc j) b.p.width (omega arith))
 
   within_none : (i j : ℕ) → row_of b i ≤ suc j → next_within (moved b 2 i j) ≡ next_above (moved b 2 i j)
   within_none i j h = rw (add-one j) (go (ltb (suc j) b.b.width) refl)
     where
       go : (t : Bool) → ltb (suc j) b.b.width ≡ t
-          → pick (t && ltb (i + suc j) b.p.width) (Holds (moved b 1 i (suc j))) (next_above (moved b 2 i j)) ≡ next_above (moved b 2 i j)
+          → pick (t && ltb (i + suc j) b.p.width) (Some (moved b 1 i (suc j))) (next_above (moved b 2 i j)) ≡ next_above (moved b 2 i j)
       go true e = rw (le-ltb (i + suc j) b.p.width (omega (arith, ltb-true (suc j) b.b.width e)))
       go false e = refl
 

@@ -4,10 +4,9 @@ use mathlib.Core.Path.{◌≡◌, refl, sym, ap, ◌∙◌}
 use mathlib.Core.List.{List}
 use lib.ListN.{length}
 use native.Mathlib.Omega.{arith}
-use Rattle.machine.specs.declared.Check.TheVariants.{Passed}
+use Rattle.std.specs.Prelude.{Ok, Some}
 use Rattle.machine.specs.Machine.{Machine}
 use Rattle.job_plans.specs.declared.Job.{Job}
-use Rattle.job_plans.specs.declared.Held.TheVariants.{Holds}
 use Rattle.job_plans.specs.declared.Command.{Command}
 use Rattle.job_plans.specs.Fields.{scaledAdd, kind_of, scaled_add_check, used_check}
 use Rattle.job_plans.specs.Places.{first, first_for, moved}
@@ -26,7 +25,7 @@ use Rattle.ends.proofs.Starts.{begins, Whole, whole_course, whole_ended}
 abbrev held : Job → Job
 held o = first_for scaledAdd o
 
-starts : (b : Job) (k : ℕ) → 0 < k → start b (ups b 0 k) ≡ Holds (moved b 1 0 0)
+starts : (b : Job) (k : ℕ) → 0 < k → start b (ups b 0 k) ≡ Some (moved b 1 0 0)
 unfolding ups
 starts b zero h = absurd (omega arith)
 starts b (suc k) h = refl
@@ -44,7 +43,7 @@ module _ (m : Machine) (o : Job) (accepted : Accepted m o) (kind : kind_of o.kin
   unfolding first
   first_is = rw kind
 
-  used : scaled_add_check m.width (held o) ≡ Passed
+  used : scaled_add_check m.width (held o) ≡ Ok tt
   unfolding used_check scaled_add_check
   used = rw kind at (begins m o accepted).used
 

@@ -10,10 +10,9 @@ use lib.Dec.{ltb, eqb}
 use lib.ListN.{length}
 use lib.Pow.{pow_pos}
 use borrow.Author.Tests.{lt-ltb, le-ltb, ltb-true}
+use Rattle.std.specs.Prelude.{Ok, Some, None}
 use Rattle.laws.specs.Bits.{bit, pick}
-use Rattle.machine.specs.declared.Check.TheVariants.{Passed}
 use Rattle.job_plans.specs.declared.Job.{Job}
-use Rattle.job_plans.specs.declared.Held.TheVariants.{Nothing, Holds}
 use Rattle.job_plans.specs.Fields.{scaledAdd, kind_of, is_zero, scaled_add_check, used_check, unused_zero}
 use Rattle.job_plans.specs.Places.{in_table, held_check, moved, next_above, next}
 use Rattle.job_plans.specs.Commands.{command, bit_of}
@@ -47,30 +46,30 @@ ups_length b i (suc k) = ap suc (ups_length b (suc i) k)
 
 -- the place after the last of a row
 pub above_is : (b : Job) (f i j : ℕ) (t : Bool) → (ltb (suc i) b.a.width && ltb (suc i) b.p.width) ≡ t
-    → next_above (moved b f i j) ≡ pick t (Holds (moved b 1 (suc i) 0)) Nothing
+    → next_above (moved b f i j) ≡ pick t (Some (moved b 1 (suc i) 0)) None
 above_is b f i j t e = rw (add-one i, e)
 
-pub above_more : (b : Job) (f i j : ℕ) → suc i < lesser b → next_above (moved b f i j) ≡ Holds (moved b 1 (suc i) 0)
+pub above_more : (b : Job) (f i j : ℕ) → suc i < lesser b → next_above (moved b f i j) ≡ Some (moved b 1 (suc i) 0)
 above_more b f i j h =
     above_is b f i j true (rw (lt-ltb (suc i) b.a.width (omega arith), lt-ltb (suc i) b.p.width (omega arith)))
 
-pub above_none : (b : Job) (f i j : ℕ) → lesser b ≤ suc i → next_above (moved b f i j) ≡ Nothing
+pub above_none : (b : Job) (f i j : ℕ) → lesser b ≤ suc i → next_above (moved b f i j) ≡ None
 above_none b f i j h = above_is b f i j false (go (ltb (suc i) b.a.width) refl)
   where
     go : (t : Bool) → ltb (suc i) b.a.width ≡ t → (t && ltb (suc i) b.p.width) ≡ false
     go true e = le-ltb (suc i) b.p.width (omega (arith, ltb-true (suc i) b.a.width e))
     go false e = refl
 
-module _ (n : ℕ) (b : Job) (kind : kind_of b.kind ≡ scaledAdd) (used : scaled_add_check n b ≡ Passed) (clear : (eqb b.x.0 0 && is_zero b.b) ≡ true) where
+module _ (n : ℕ) (b : Job) (kind : kind_of b.kind ≡ scaledAdd) (used : scaled_add_check n b ≡ Ok tt) (clear : (eqb b.x.0 0 && is_zero b.b) ≡ true) where
   fields : AddFields n b
   fields = add_fields n b used
 
   -- the job at a place of its table is in order
-  placed : (f i : ℕ) → (eqb f 1 || eqb f 2) ≡ true → i < lesser b → held_check n (moved b f i 0) ≡ Passed
+  placed : (f i : ℕ) → (eqb f 1 || eqb f 2) ≡ true → i < lesser b → held_check n (moved b f i 0) ≡ Ok tt
   unfolding held_check used_check unused_zero in_table scaled_add_check
   placed f i h l = rw (kind, moved_used, clear, h, lt-ltb i b.a.width (omega arith), lt-ltb i b.p.width (omega arith))
     where
-      moved_used : scaled_add_check n (moved b f i 0) ≡ Passed
+      moved_used : scaled_add_check n (moved b f i 0) ≡ Ok tt
       moved_used = used
 
   good : (i : ℕ) → i < lesser b → Good n b (stop b i)

@@ -10,10 +10,10 @@ use lib.Dec.{eqb}
 use lib.ListN.{length}
 use lib.Pow.{pow_pos}
 use borrow.Author.Tests.{eq-eqb, ne_eqb, eqb-true, eqb-false}
+use Rattle.std.specs.Prelude.{Ok}
 use Rattle.laws.specs.Bits.{bit, digit}
 use Rattle.laws.proofs.Digits.{Bit, off, on}
 use Rattle.laws.proofs.Bits.{digit_at, not_bit, bit_none}
-use Rattle.machine.specs.declared.Check.TheVariants.{Passed}
 use Rattle.machine.specs.Machine.{Machine}
 use Rattle.job_plans.specs.declared.Job.{Job}
 use Rattle.job_plans.specs.Fields.{smallest, kind_of, extreme_check, used_check}
@@ -58,7 +58,7 @@ module _ (m : Machine) (o : Job) (accepted : Accepted m o) (kind : kind_of o.kin
   abbrev mirror : ℕ → ℕ
   mirror w = 2 ^ o.a.width - 1 - value_of o.a w
 
-  used : extreme_check m.width (held o) ≡ Passed
+  used : extreme_check m.width (held o) ≡ Ok tt
   unfolding used_check extreme_check
   used = rw kind at (begins m o accepted).used
 

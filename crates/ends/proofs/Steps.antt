@@ -7,27 +7,23 @@ use lib.Dec.{eqb}
 use lib.ListN.{length, get_or}
 use native.Mathlib.Nat.{zero-add}
 use native.Mathlib.Omega.{arith}
-use Rattle.machine.specs.declared.Check.{Check}
-use Rattle.machine.specs.declared.Check.TheVariants.{Passed, Refused}
+use Rattle.std.specs.Prelude.{Result, Ok, Err, Some, None}
 use Rattle.machine.specs.declared.Panel.{Panel}
+use Rattle.machine.specs.declared.Refusal.{Refusal}
 use Rattle.machine.specs.declared.Lines.{Lines}
-use Rattle.machine.specs.declared.Answer.TheVariants as pulse
-use Rattle.machine.specs.Refusals.{answer_by, pulse_check, answer_of, after}
+use Rattle.machine.specs.Refusals.{Check, pulse_check, answer_of, after}
 use Rattle.machine.specs.Machine.{Machine}
 use Rattle.machine.specs.Pulse.{count_of, read_of, pulsed}
 use Rattle.machine.proofs.Refusals.{Sound}
 use Rattle.job_plans.specs.declared.Job.{Job}
-use Rattle.job_plans.specs.declared.Held.{Held}
-use Rattle.job_plans.specs.declared.Held.TheVariants.{Nothing, Holds}
 use Rattle.job_plans.specs.declared.Command.{Command}
 use Rattle.jobs.specs.declared.Stepped.{Stepped}
-use Rattle.jobs.specs.declared.Stepped.TheVariants as answer
 use Rattle.laws.specs.Bits.{pick}
-use Rattle.job_plans.specs.Fields.{Kind, greatest, smallest, scaledAdd, product, unknown, kind_of}
+use Rattle.job_plans.specs.Fields.{Held, Kind, greatest, smallest, scaledAdd, product, unknown, kind_of}
 use Rattle.job_plans.specs.Places.{held_check, next, none_held}
 use Rattle.job_plans.specs.Commands.{command, opening, trial, second}
 use Rattle.jobs.proofs.Calls.{pulse_passes}
-use Rattle.jobs.specs.Calls.{step_check, gave, step_of, machine_after, after_step}
+use Rattle.jobs.specs.Calls.{step_check, gave, given_by, step_of, machine_after, after_step}
 use Rattle.jobs.specs.Runs.{State, held_after, stepped, steps}
 use Rattle.ends.specs.Ends.{Gives}
 use Rattle.ends.proofs.Machines.{passes}
@@ -61,31 +57,31 @@ reads_nothing q = go (eqb q.phase 0) (eqb q.phase 1) (kind_of q.kind)
     go false false product = refl
     go false false unknown = refl
 
-counted : (m : Machine) (q : Job) → pulse_check m (command q).panel (command q).lines ≡ Passed
-    → answer_of m (command q).panel (command q).lines ≡ pulse.Done (counted_by m q) 0
+counted : (m : Machine) (q : Job) → pulse_check m (command q).panel (command q).lines ≡ Ok tt
+    → answer_of m (command q).panel (command q).lines ≡ Ok (record { count = counted_by m q; read = 0 })
 unfolding answer_of read_of
 counted m q h = rw (h, reads_nothing q)
 
-pub left : (m : Machine) (p : Panel) (l : Lines) → pulse_check m p l ≡ Passed → after m p l ≡ pulsed m p l
+pub left : (m : Machine) (p : Panel) (l : Lines) → pulse_check m p l ≡ Ok tt → after m p l ≡ pulsed m p l
 unfolding after
 left m p l h = rw h
 
 -- ---- one step of a held job that is in order, on a sound machine
 
-module _ (m : Machine) (q : Job) (s : Sound m) (f : held_check m.width q ≡ Passed) where
-  answered : step_of m (Holds q) ≡ answer.Gave (command q) (counted_by m q) (next q (counted_by m q))
+module _ (m : Machine) (q : Job) (s : Sound m) (f : held_check m.width q ≡ Ok tt) where
+  answered : step_of m (Some q) ≡ Ok (record { command = command q; count = counted_by m q; held = next q (counted_by m q) })
   unfolding step_of step_check
   answered = rw (passes m s, f)
 
-  pub one_step : stepped (on m (Holds q)) ≡ on (pulsed_by m q) (next q (counted_by m q))
+  pub one_step : stepped (on m (Some q)) ≡ on (pulsed_by m q) (next q (counted_by m q))
   unfolding stepped after_step
   one_step = rw answered
 
-  taken : pulse_check m (command q).panel (command q).lines ≡ Passed
+  taken : pulse_check m (command q).panel (command q).lines ≡ Ok tt
   unfolding step_check
   taken = pulse_passes m q (rw (passes m s, f)) (command q) refl
 
-  pub gives : Gives (command q) (on m (Holds q))
+  pub gives : Gives (command q) (on m (Some q))
   gives = record {
     count = counted_by m q;
     then = next q (counted_by m q);
@@ -96,22 +92,22 @@ module _ (m : Machine) (q : Job) (s : Sound m) (f : held_check m.width q ≡ Pas
   }
 
 -- a step that gives its command was not turned down: the machine passes 1 to 3 and the held job 8
-pub given_passed : (s : State) {k : Command} → Gives k s → step_check s.machine s.held ≡ Passed
+pub given_passed : (s : State) {k : Command} → Gives k s → step_check s.machine s.held ≡ Ok tt
 unfolding step_of
 given_passed s g = go (step_check s.machine s.held) _ g.answers
   where
-    go : (c : Check) (a : Stepped) {k : Command} {n : ℕ} {h : Held} → answer_by c answer.Refused a ≡ answer.Gave k n h → c ≡ Passed
-    go Passed a e = refl
-    go (Refused r) a e = cc
+    go : (c : Check) (a : Result Stepped Refusal) {k : Command} {n : ℕ} {h : Held} → given_by c a ≡ Ok (record { command = k; count = n; held = h }) → c ≡ Ok tt
+    go (Ok tt) a e = refl
+    go (Err r) a e = cc
 
 -- a step while none is held gives nothing
-pub held_given : (m : Machine) (h : Held) {c : Command} {n : ℕ} {g : Held} → step_of m h ≡ answer.Gave c n g → h ≡ Nothing → ⊥
+pub held_given : (m : Machine) (h : Held) {c : Command} {n : ℕ} {g : Held} → step_of m h ≡ Ok (record { command = c; count = n; held = g }) → h ≡ None → ⊥
 unfolding step_of
-held_given m h e z = go (step_check m Nothing) (ap (λ (h : Held). answer_by (step_check m h) answer.Refused (gave m h)) (sym z) ∙ e)
+held_given m h e z = go (step_check m None) (ap (λ (h : Held). given_by (step_check m h) (gave m h)) (sym z) ∙ e)
   where
-    go : (c : Check) {k : Command} {n : ℕ} {g : Held} → answer_by c answer.Refused (answer.Refused none_held) ≡ answer.Gave k n g → ⊥
-    go Passed e = let z : ◌≡◌ {A = ℕ} 0 1 = cc in absurd (omega arith)
-    go (Refused r) e = let z : ◌≡◌ {A = ℕ} 0 1 = cc in absurd (omega arith)
+    go : (c : Check) {k : Command} {n : ℕ} {g : Held} → given_by c (Err none_held) ≡ Ok (record { command = k; count = n; held = g }) → ⊥
+    go (Ok tt) e = let z : ◌≡◌ {A = ℕ} 0 1 = cc in absurd (omega arith)
+    go (Err r) e = let z : ◌≡◌ {A = ℕ} 0 1 = cc in absurd (omega arith)
 
 -- ---- steps, and more steps
 
@@ -127,15 +123,15 @@ steps_last zero s = refl
 steps_last (suc k) s = steps_last k (stepped s)
 
 -- a step while no job is held is refused, and changes nothing
-idle : (m : Machine) → stepped (on m Nothing) ≡ on m Nothing
+idle : (m : Machine) → stepped (on m None) ≡ on m None
 unfolding stepped after_step step_of
-idle m = go (step_check m Nothing)
+idle m = go (step_check m None)
   where
-    go : (c : Check) → on (machine_after (answer_by c answer.Refused (gave m Nothing)) m) (held_after (answer_by c answer.Refused (gave m Nothing)) Nothing) ≡ on m Nothing
-    go Passed = refl
-    go (Refused r) = refl
+    go : (c : Check) → on (machine_after (given_by c (gave m None)) m) (held_after (given_by c (gave m None)) None) ≡ on m None
+    go (Ok tt) = refl
+    go (Err r) = refl
 
-pub steps_idle : (k : ℕ) (m : Machine) → steps k (on m Nothing) ≡ on m Nothing
+pub steps_idle : (k : ℕ) (m : Machine) → steps k (on m None) ≡ on m None
 unfolding steps
 steps_idle zero m = refl
 steps_idle (suc k) m = ap (steps k) (idle m) ∙ steps_idle k m
@@ -158,6 +154,6 @@ run_gives (then g r) none zero h = g
 run_gives (then g r) none (suc j) h = run_gives r none j (omega arith)
 
 -- one step before the others, whose end is t
-pub step_then : (m : Machine) (q : Job) (t : State) → Sound m → held_check m.width q ≡ Passed → {ks : List Command}
-    → Run ks (on (pulsed_by m q) (next q (counted_by m q))) t → Run (command q ∷ ks) (on m (Holds q)) t
+pub step_then : (m : Machine) (q : Job) (t : State) → Sound m → held_check m.width q ≡ Ok tt → {ks : List Command}
+    → Run ks (on (pulsed_by m q) (next q (counted_by m q))) t → Run (command q ∷ ks) (on m (Some q)) t
 step_then m q t s f {ks} r = then {ks = ks} {t = t} (gives m q s f) (rw (one_step m q s f) r)

@@ -6,13 +6,12 @@ use mathlib.Core.List.{List}
 use native.Mathlib.Omega.{arith}
 use lib.Dec.{eqb}
 use lib.ListN.{length, get_or}
+use Rattle.std.specs.Prelude.{Ok, Some}
 use Rattle.laws.specs.Bits.{bit, pick, digit}
 use Rattle.laws.proofs.Bits.{bit_none}
-use Rattle.machine.specs.declared.Check.TheVariants.{Passed}
 use Rattle.machine.specs.Machine.{Machine, response_bits, selected}
 use Rattle.machine.proofs.Refusals.{Sound}
 use Rattle.job_plans.specs.declared.Job.{Job}
-use Rattle.job_plans.specs.declared.Held.TheVariants.{Holds}
 use Rattle.job_plans.specs.Places.{held_check, moved, next_below, next}
 use Rattle.job_plans.specs.Commands.{command, look, bit_of}
 use Rattle.ends.specs.Ends.{word, response, chosen, SameSize}
@@ -29,10 +28,10 @@ pub record Plan (n : ℕ) (b : Job) (comp : ℕ → ℕ) : Type 0 where
   pub tries : (i : ℕ) → command (moved b 1 i 0) ≡ look (2 ^ b.x.0) (2 ^ b.x.0) b.y (bit_of b.a i) (comp i)
   pub narrows : (i : ℕ) → command (moved b 2 i 0) ≡ look (2 ^ b.y.0) (2 ^ b.y.0) b.x 0 0
   pub after_opening : (c : ℕ) → next b c ≡ next_below b b.a.width
-  pub after_trial_lem : (i c : ℕ) → next (moved b 1 i 0) c ≡ pick (eqb c 0) (next_below b i) (Holds (moved b 2 i 0))
+  pub after_trial_lem : (i c : ℕ) → next (moved b 1 i 0) c ≡ pick (eqb c 0) (next_below b i) (Some (moved b 2 i 0))
   pub after_second_lem : (i c : ℕ) → next (moved b 2 i 0) c ≡ next_below b i
-  pub first_fits : held_check n b ≡ Passed
-  pub fits : (f i : ℕ) → (eqb f 1 || eqb f 2) ≡ true → i < b.a.width → held_check n (moved b f i 0) ≡ Passed
+  pub first_fits : held_check n b ≡ Ok tt
+  pub fits : (f i : ℕ) → (eqb f 1 || eqb f 2) ≡ true → i < b.a.width → held_check n (moved b f i 0) ≡ Ok tt
 
 -- u is a word's value, of which the trial at place i finds the bit i; g is the best of the selected words, and 0 if there is none
 pub record Best (m : Machine) (b : Job) (comp : ℕ → ℕ) (u : ℕ → ℕ) (g : ℕ) : Type 0 where

@@ -3,13 +3,12 @@ use Prim.Native.Nat.{ℕ, ◌+◌, ◌*◌, ◌^◌, ◌<◌}
 use mathlib.Core.Path.{◌≡◌, refl, ap₂, ◌∙◌}
 use mathlib.Core.Bool.{Bool}
 use mathlib.Core.List.{List, [], ◌∷◌}
+use Rattle.std.specs.Prelude.{Ok, Some, None}
 use Rattle.laws.specs.Bits.{bit, digit}
-use Rattle.machine.specs.declared.Check.TheVariants.{Passed}
 use Rattle.machine.specs.Machine.{Machine}
 use Rattle.machine.proofs.Refusals.{Sound}
+use Rattle.job_plans.specs.Fields.{Held}
 use Rattle.job_plans.specs.declared.Job.{Job}
-use Rattle.job_plans.specs.declared.Held.{Held}
-use Rattle.job_plans.specs.declared.Held.TheVariants.{Nothing, Holds}
 use Rattle.job_plans.specs.Places.{held_check, moved, next}
 use Rattle.job_plans.specs.declared.Command.{Command}
 use Rattle.job_plans.specs.Commands.{command, look, plus}
@@ -35,16 +34,16 @@ total (q ∷ qs) w = digit (q.opens w) * q.value + total qs w
 
 -- the job held before the first of these stops
 abbrev pub start : Job → List Stop → Held
-start b [] = Nothing
-start b (q ∷ qs) = Holds (moved b 1 q.i q.j)
+start b [] = None
+start b (q ∷ qs) = Some (moved b 1 q.i q.j)
 
 -- the place is one of the job's, with these commands; P has none of the bits that are searched for
 pub record Good (n : ℕ) (b : Job) (q : Stop) : Type 0 where
   pub tried : command (moved b 1 q.i q.j) ≡ look b.key b.care b.y q.mask q.mask
   pub adds : command (moved b 2 q.i q.j) ≡ plus b.y b.p q.value
-  pub onward : (c : ℕ) → next (moved b 1 q.i q.j) c ≡ Holds (moved b 2 q.i q.j)
-  pub first_fits : held_check n (moved b 1 q.i q.j) ≡ Passed
-  pub second_fits : held_check n (moved b 2 q.i q.j) ≡ Passed
+  pub onward : (c : ℕ) → next (moved b 1 q.i q.j) c ≡ Some (moved b 2 q.i q.j)
+  pub first_fits : held_check n (moved b 1 q.i q.j) ≡ Ok tt
+  pub second_fits : held_check n (moved b 2 q.i q.j) ≡ Ok tt
   pub small : q.value < 2 ^ b.p.width
   pub found : (w : ℕ) → agrees n q.mask w q.mask ≡ q.opens w
   pub kept : (w x : ℕ) → ((i : ℕ) → Outside b.p i → bit x i ≡ bit w i) → q.opens x ≡ q.opens w
@@ -68,7 +67,7 @@ both b (q ∷ qs) = command (moved b 1 q.i q.j) ∷ command (moved b 2 q.i q.j) 
 -- two pulses for each stop: none is refused, the last leaves no job held, and each word's P gains what its open gates add
 pub record Visited (b : Job) (qs : List Stop) (m : Machine) : Type 0 where
   pub end : Machine
-  pub run : Run (both b qs) (on m (start b qs)) (on end Nothing)
+  pub run : Run (both b qs) (on m (start b qs)) (on end None)
   pub sound : Sound end
   pub adds : Adds b (total qs) m end
 
@@ -102,12 +101,12 @@ module _ (b : Job) (y_works : Working b.care b.y) where
       let z = stopped m q s (rw e p) g in
       let w₂ : (after₂ m q).width ≡ n = z.adds.size.width ∙ e in
       let v = visits n p qs r.2 (after₂ m q) z.sound₂ w₂ in
-      let second : held_check (after₁ m q).width (moved b 2 q.i q.j) ≡ Passed = rw (z.width₁, e) r.0.second_fits in
+      let second : held_check (after₁ m q).width (moved b 2 q.i q.j) ≡ Ok tt = rw (z.width₁, e) r.0.second_fits in
       record {
         end = v.end;
-        run = step_then m (moved b 1 q.i q.j) (on v.end Nothing) s g.first_fits
+        run = step_then m (moved b 1 q.i q.j) (on v.end None) s g.first_fits
             (rw (r.0.onward (counted_by m (moved b 1 q.i q.j)))
-            (step_then (after₁ m q) (moved b 2 q.i q.j) (on v.end Nothing) z.sound₁ second
+            (step_then (after₁ m q) (moved b 2 q.i q.j) (on v.end None) z.sound₁ second
             (rw (r.1 (counted_by (after₁ m q) (moved b 2 q.i q.j))) v.run)));
         sound = v.sound;
         adds = adds_both b y_works _ (total qs) m (after₂ m q) v.end (total_kept n b qs r.2) z.adds v.adds;

@@ -1,19 +1,13 @@
 -- Document 01, 'Jobs': the words in which a job's end is told.
-use Rattle.std.specs.Prelude.{ℕ, zero, suc, ◌+◌, ◌-◌, ◌*◌, ◌%◌, ◌^◌, ◌≤◌, ◌<◌, min, ◌≡◌, Bool, true, false, ◌&&◌, ◌⊎◌, List, [], ◌∷◌, ◌++◌, ltb, eqb, length, get_or}
+use Rattle.std.specs.Prelude.{ℕ, zero, suc, ◌+◌, ◌-◌, ◌*◌, ◌%◌, ◌^◌, ◌≤◌, ◌<◌, min, ◌≡◌, Bool, true, false, ◌&&◌, ◌⊎◌, List, [], ◌∷◌, ◌++◌, ltb, eqb, length, get_or, Ok, Some, None}
 use Rattle.laws.specs.Bits.{bit, pick, digit}
-use Rattle.machine.specs.declared.Check.TheVariants as check
-use Rattle.machine.specs.declared.Answer.TheVariants as pulse
 use Rattle.machine.specs.Machine.{Machine, response_bits, selected}
 pub use Rattle.machine.specs.Machine.{response}
 use Rattle.machine.specs.Refusals.{machine_check, pulse_check, answer_of, after}
 use Rattle.job_plans.specs.declared.Span.{Span}
 use Rattle.job_plans.specs.declared.Job.{Job}
-use Rattle.job_plans.specs.declared.Held.{Held}
-use Rattle.job_plans.specs.declared.Held.TheVariants.{Nothing, Holds}
 use Rattle.job_plans.specs.declared.Command.{Command}
-use Rattle.jobs.specs.declared.Started.TheVariants as started
-use Rattle.jobs.specs.declared.Stepped.TheVariants as answer
-use Rattle.job_plans.specs.Fields.{Kind, greatest, smallest, scaledAdd, product, unknown, kind_of}
+use Rattle.job_plans.specs.Fields.{Held, Kind, greatest, smallest, scaledAdd, product, unknown, kind_of}
 use Rattle.job_plans.specs.Places.{first, moved}
 use Rattle.job_plans.specs.Commands.{command, opening}
 use Rattle.jobs.specs.Calls.{start_of, step_of}
@@ -26,11 +20,11 @@ word m k = get_or m.words k 0
 
 -- the start of the job is accepted: what is then held is the job at its first place
 abbrev pub Accepted : Machine → Job → Type 0
-Accepted m o = start_of m Nothing o ≡ started.Holds (first o)
+Accepted m o = start_of m None o ≡ Ok (first o)
 
 -- the machine and the job held once its start is accepted
 abbrev pub begun : Machine → Job → State
-begun m o = record { machine = m; held = Holds (first o) }
+begun m o = record { machine = m; held = Some (first o) }
 
 -- word k is selected by the job's criterion
 abbrev pub chosen : Machine → Job → ℕ → Bool
@@ -47,9 +41,9 @@ Outside s i = (i < s.low.0) ⊎ (s.low.0 + s.width ≤ i)
 pub record Gives (k : Command) (s : State) : Type 0 where
   pub count : ℕ
   pub then : Held
-  pub accepted : pulse_check s.machine k.panel k.lines ≡ check.Passed
-  pub counts : answer_of s.machine k.panel k.lines ≡ pulse.Done count 0
-  pub answers : step_of s.machine s.held ≡ answer.Gave k count then
+  pub accepted : pulse_check s.machine k.panel k.lines ≡ Ok tt
+  pub counts : answer_of s.machine k.panel k.lines ≡ Ok (record { count = count; read = 0 })
+  pub answers : step_of s.machine s.held ≡ Ok (record { command = k; count = count; held = then })
   pub leaves : (stepped s).machine ≡ after s.machine k.panel k.lines
 
 -- ---- a job's commands in the table's order; o is the job as its start leaves it
@@ -94,8 +88,8 @@ ended m o = (steps (pulses m (first o)) (begun m o)).machine
 pub record Course (m : Machine) (o : Job) : Type 0 where
   pub many : length (commands_of m (first o)) ≡ pulses m (first o)
   pub gives : (k : ℕ) → k < pulses m (first o) → Gives (command_at m (first o) k) (steps k (begun m o))
-  pub over : (steps (pulses m (first o)) (begun m o)).held ≡ Nothing
-  pub passes : machine_check (ended m o) ≡ check.Passed
+  pub over : (steps (pulses m (first o)) (begun m o)).held ≡ None
+  pub passes : machine_check (ended m o) ≡ Ok tt
 
 -- ---- "the greatest syllable", "the smallest", where any word is selected
 
