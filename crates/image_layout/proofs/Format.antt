@@ -9,11 +9,11 @@ use lib.Pow.{pow_mono, pow-add}
 use lib.Seq.{drop-cons, drop-drop, drop-length, take-take, length-take-le}
 use Rattle.machine.specs.declared.ResponseBit.{ResponseBit}
 use Rattle.job_plans.specs.declared.Job.{Job}
-use Rattle.job_plans.specs.declared.Held.{Held}
-use Rattle.job_plans.specs.declared.Held.TheVariants.{Nothing, Holds}
 use Rattle.job_plans.specs.declared.Span.{Span}
 use Rattle.image_layout.specs.Sizes.{count_size, response_size, record_size, most_jobs, bits_at, constant_size}
 use Rattle.image_layout.specs.Format.{bytes, value, number_at, items, section, byte, bit_at, span_at, job_of, job_bytes, held_jobs, held_of, Under, AreBytes, JobFits}
+use Rattle.job_plans.specs.Fields.{Held}
+use Rattle.std.specs.Prelude.{Some, None}
 
 -- ---- lists of bytes
 
@@ -174,8 +174,8 @@ in_record b at p k h = ap value (ap (take k) (sym (drop-drop p at b)) ∙ sym (b
 -- ---- the held jobs
 
 pub held_jobs_lem : (h : Held) → held_of (held_jobs h) ≡ h
-held_jobs_lem Nothing = refl
-held_jobs_lem (Holds o) = refl
+held_jobs_lem None = refl
+held_jobs_lem (Some o) = refl
 
 pub jobs_held : (os : List Job) → length os ≤ most_jobs → held_jobs (held_of os) ≡ os
 jobs_held [] h = refl
@@ -183,8 +183,8 @@ jobs_held (o ∷ []) h = refl
 jobs_held (o ∷ q ∷ os) h = absurd (omega arith)
 
 pub few_jobs : (h : Held) → length (held_jobs h) ≤ most_jobs
-few_jobs Nothing = omega arith
-few_jobs (Holds o) = omega arith
+few_jobs None = omega arith
+few_jobs (Some o) = omega arith
 
 -- ---- how long a section is
 

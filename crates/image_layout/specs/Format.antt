@@ -1,12 +1,10 @@
 -- Document 01, 'The image': the bytes of a machine and its held job.
-use Rattle.std.specs.Prelude.{ℕ, zero, suc, ◌+◌, ◌*◌, ◌/◌, ◌%◌, ◌^◌, ◌<◌, List, [], ◌∷◌, ◌++◌, length, take, drop, get_or}
+use Rattle.std.specs.Prelude.{ℕ, zero, suc, ◌+◌, ◌*◌, ◌/◌, ◌%◌, ◌^◌, ◌<◌, List, [], ◌∷◌, ◌++◌, length, take, drop, get_or, Some, None}
 use Rattle.machine.specs.declared.ResponseBit.{ResponseBit}
 use Rattle.machine.specs.Machine.{response_bits}
 use Rattle.job_plans.specs.declared.Span.{Span}
 use Rattle.job_plans.specs.declared.Job.{Job}
-use Rattle.job_plans.specs.Fields.{job}
-use Rattle.job_plans.specs.declared.Held.{Held}
-use Rattle.job_plans.specs.declared.Held.TheVariants.{Nothing, Holds}
+use Rattle.job_plans.specs.Fields.{job, Held}
 use Rattle.jobs.specs.Runs.{State}
 use Rattle.image_layout.specs.Sizes.{count_size, width_size, word_size, response_size, bits_at, constant_size}
 
@@ -53,12 +51,12 @@ section item xs = bytes count_size (length xs) ++ items item xs
 
 -- the held jobs, and what is held where these are: "job, count 0 or 1"
 abbrev pub held_jobs : Held → List Job
-held_jobs Nothing = []
-held_jobs (Holds o) = o ∷ []
+held_jobs None = []
+held_jobs (Some o) = o ∷ []
 
 abbrev pub held_of : List Job → Held
-held_of [] = Nothing
-held_of (o ∷ os) = Holds o
+held_of [] = None
+held_of (o ∷ os) = Some o
 
 -- "Four sections in this order": "width, count 1, one byte N; words, count n, 8 bytes each, low byte first; responses, count n, one byte each; job"
 -- "The panel isn't stored; the machine an image stands for is width, words, responses and job."

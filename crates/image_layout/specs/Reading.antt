@@ -1,14 +1,12 @@
 -- Document 01, number 9: which bytes are the image of a machine, and the place of the first field that is not right.
 -- "The place in 9 is the offset of the first field, read in order, that is cut off or breaks a rule (a job is one field), or of the first byte
 -- too many."
-use Rattle.std.specs.Prelude.{ℕ, zero, suc, ◌+◌, Bool, true, not, ◌&&◌, List, [], ◌∷◌, ◌++◌, ltb, leb, eqb, length, take, drop, replicate}
+use Rattle.std.specs.Prelude.{ℕ, zero, suc, ◌+◌, Bool, true, not, ◌&&◌, List, [], ◌∷◌, ◌++◌, ltb, leb, eqb, length, take, drop, replicate, Result, Ok, Err}
 use Rattle.laws.specs.Bits.{pick}
 use Rattle.machine.specs.Refusals.{bad_width, too_wide, passes}
 use Rattle.job_plans.specs.declared.Job.{Job}
 use Rattle.job_plans.specs.Places.{held_check}
 use Rattle.jobs.specs.Runs.{State, state}
-use Rattle.image_layout.specs.declared.Scanned.{Scanned}
-use Rattle.image_layout.specs.declared.Scanned.TheVariants.{Sound, Broken}
 use Rattle.image_layout.specs.Sizes.{count_size, width_size, word_size, response_size, record_size, most_jobs, items_at, width_at, words_at, responses_at, jobs_at}
 use Rattle.image_layout.specs.Format.{value, number_at, job_of, held_of}
 
@@ -17,11 +15,15 @@ pub record Field : Type 0 where
   pub size : ℕ
   pub right : List ℕ → Bool
 
+-- what a look through the bytes, field by field, finds: nothing wrong, or the place of the first field that is
+abbrev pub Scanned : Type 0
+Scanned = Result (Unit {0}) ℕ
+
 -- field by field from this place on
 unfoldable pub scan : List Field → ℕ → List ℕ → Scanned
-scan [] at bs = pick (eqb (length bs) 0) Sound (Broken at)
-scan (f ∷ fs) at bs = pick (ltb (length bs) f.size) (Broken at)
-    (pick (f.right (take f.size bs)) (scan fs (at + f.size) (drop f.size bs)) (Broken at))
+scan [] at bs = pick (eqb (length bs) 0) (Ok tt) (Err at)
+scan (f ∷ fs) at bs = pick (ltb (length bs) f.size) (Err at)
+    (pick (f.right (take f.size bs)) (scan fs (at + f.size) (drop f.size bs)) (Err at))
 
 -- ---- the fields, each with its rule
 

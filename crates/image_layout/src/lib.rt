@@ -6,13 +6,6 @@
 ghost use Rattle.std.specs.Prelude.{◌≡◌, ◌≤◌};
 ghost use Rattle.image_layout.specs.Sizes.{responses_at, jobs_at, image_size, most_jobs};
 
-// What a look through the bytes, field by field, finds: nothing wrong, or the place of the first field that is.
-#[derive(Clone, Copy)]
-pub enum Scanned {
-    Sound,
-    Broken(usize),
-}
-
 // ---- how many bytes
 
 pub const COUNT_SIZE: usize = 4;
