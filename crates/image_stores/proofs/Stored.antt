@@ -1,21 +1,22 @@
 -- Stores, said of what is still to be stored: one turn of each loop, and parts one after the other.
-use Prim.Native.Nat.{ℕ, suc, ◌+◌, ◌*◌, ◌-◌, ◌/◌, ◌%◌, ◌<◌}
-use mathlib.Core.Path.{◌≡◌, sym, ap, ap₂, ◌∙◌}
+use Prim.Native.Nat.{ℕ, suc, ◌+◌, ◌*◌, ◌-◌, ◌/◌, ◌%◌, ◌≤◌, ◌<◌}
+use mathlib.Core.Path.{◌≡◌, refl, sym, ap, ap₂, ◌∙◌}
 use mathlib.Core.List.{List, [], ◌∷◌, ◌++◌, append_assoc, append-nil}
 use native.Mathlib.Nat.{suc-add, add-suc, add-zero}
 use native.Mathlib.Numerals.{add-one}
 use native.Mathlib.Omega.{arith}
-use lib.ListN.{length, drop, get_or, set}
-use lib.Seq.{sets, drop-cons, drop-drop, drop-length}
+use lib.ListN.{length, take, drop, get_or, set}
+use borrow.Rule.Slice.PartMut.{put_mid}
+use lib.Seq.{sets, sets-eq, drop-cons, drop-drop, drop-length}
 use Rattle.machine.specs.Machine.{Machine}
 use Rattle.job_plans.specs.declared.Job.{Job}
-use Rattle.job_plans.specs.declared.Held.{Held}
-use Rattle.job_plans.specs.declared.Held.TheVariants.{Nothing, Holds}
 use Rattle.image_layout.specs.Sizes.{count_size, width_size, word_size, response_size, record_size, constant_size, items_at, past_section, width_at, responses_at}
 use Rattle.image_layout.specs.Format.{bytes, number_at, items, section, job_bytes, held_jobs}
 use Rattle.image_layout.specs.Reading.{numbers}
 use Rattle.image_stores.specs.Stored.{machine_bytes}
 use Rattle.image_layout.proofs.Format.{length_bytes, length_items}
+use Rattle.job_plans.specs.Fields.{Held}
+use Rattle.std.specs.Prelude.{Some, None}
 
 pub sets_append : (s t d : List ℕ) (i : ℕ) → sets d i (s ++ t) ≡ sets (sets d i s) (i + length s) t
 sets_append [] t d i = rw add-zero
@@ -35,14 +36,18 @@ put_turn d at k x j h =
     rw (e, f)
 
 -- ---- bytes as they are
-pub list_turn : (d : List ℕ) (at : ℕ) (s : List ℕ) (i : ℕ) → i < length s
-    → sets d (at + i) (drop i s) ≡ sets (set d (at + i) (get_or s i 0)) (at + (i + 1)) (drop (i + 1) s)
-list_turn d at s i h =
-    let f : at + (i + 1) ≡ suc (at + i) = omega arith in
-    rw (drop-cons s i 0, f, add-one)
+pub list_stored : (d x : List ℕ) (at : ℕ) (s : List ℕ) → at + length s ≤ length d → x ≡ s → put_mid at (at + length s - at) d x ≡ sets d at s
+list_stored d x at s h g =
+    let e : at + length s - at ≡ length s = omega arith in
+    rw (e, g, drop-drop) (sym (sets-eq s d at h ∙ append_assoc (take at d) s (drop (at + length s) d)))
 
-pub list_none : (d : List ℕ) (at : ℕ) (s : List ℕ) → sets d at (drop (length s) s) ≡ d
-list_none d at s = rw drop-length
+-- so are numbers of one byte each
+pub as_they_are : (s : List ℕ) → ((i : ℕ) → get_or s i 0 < 256) → s ≡ items (bytes response_size) s
+unfolding items bytes
+as_they_are [] h = refl
+as_they_are (x ∷ s) h =
+    let e : x % 256 ≡ x = omega (arith, h 0) in
+    rw e (ap (λ (r : List ℕ). x ∷ r) (as_they_are s (λ i. h (suc i))))
 
 -- ---- numbers of k bytes each
 pub items_turn : (k : ℕ) (d : List ℕ) (at : ℕ) (s : List ℕ) (i : ℕ) → i < length s
@@ -120,12 +125,12 @@ wrote_machine m d d0 d1 d2 d3 d4 d5 p0 p1 p2 p3 p4 p5 e0 e1 e2 e3 e4 e5 = (
 )
 
 -- the job's section, by what is held
-pub stored_none : (h : Held) (d d1 : List ℕ) (at r : ℕ) → h ≡ Nothing → (r ≡ items_at at) × (d1 ≡ sets d at (bytes count_size 0))
+pub stored_none : (h : Held) (d d1 : List ℕ) (at r : ℕ) → h ≡ None → (r ≡ items_at at) × (d1 ≡ sets d at (bytes count_size 0))
     → (r ≡ past_section at record_size (length (held_jobs h))) × (d1 ≡ sets d at (section job_bytes (held_jobs h)))
 unfolding items
 stored_none h d d1 at r e f = rw e (omega (arith, f.0), rw append-nil f.1)
 
-pub stored_one : (h : Held) (o : Job) (d d1 d2 : List ℕ) (at p r : ℕ) → h ≡ Holds o → (p ≡ items_at at) × (d1 ≡ sets d at (bytes count_size 1))
+pub stored_one : (h : Held) (o : Job) (d d1 d2 : List ℕ) (at p r : ℕ) → h ≡ Some o → (p ≡ items_at at) × (d1 ≡ sets d at (bytes count_size 1))
     → (r ≡ p + record_size) × (d2 ≡ sets d1 p (job_bytes o))
     → (r ≡ past_section at record_size (length (held_jobs h))) × (d2 ≡ sets d at (section job_bytes (held_jobs h)))
 unfolding items

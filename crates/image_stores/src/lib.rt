@@ -10,7 +10,7 @@ ghost use Rattle.image_layout.specs.Format.{bytes, items, section, job_bytes, he
 ghost use Rattle.image_stores.specs.Stored.{machine_bytes};
 
 use image_layout::{CONSTANT_SIZE, COUNT_SIZE, RESPONSE_SIZE, WIDTH_AT, WIDTH_SIZE, WORD_SIZE};
-use job_plans::{Held, Job};
+use job_plans::Job;
 use machine::Response;
 
 // k bytes of a number, low byte first.
@@ -18,12 +18,10 @@ pub fn put(out: &mut [u8], at: usize, k: usize, x: u64) -> usize
     requires { at + k ≤ length out.old }
     ensures { (result ≡ at + k) × (out.new ≡ sets out.old at (bytes k x)) }
 {
-    let mut y = x;
-    let mut j = 0;
-    while j < k {
-        out[at + j] = (y % 256) as u8;
-        y = y / 256;
-        j += 1;
+    let mut rest = x;
+    for j in 0..k {
+        out[at + j] = (rest % 256) as u8;
+        rest /= 256;
     }
     at + k
 }
@@ -33,27 +31,11 @@ fn put_words(out: &mut [u8], at: usize, words: &[u64]) -> usize
     requires { at + word_size * length words.now ≤ length out.old }
     ensures { (result ≡ at + word_size * length words.now) × (out.new ≡ sets out.old at (items (bytes word_size) words.now)) }
 {
-    let mut p = at;
-    let mut i = 0;
-    while i < words.len() {
-        p = put(out, p, WORD_SIZE, words[i]);
-        i += 1;
+    let mut place = at;
+    for word in words {
+        place = put(out, place, WORD_SIZE, *word);
     }
-    p
-}
-
-// "one byte each"
-fn put_responses(out: &mut [u8], at: usize, responses: &[Response]) -> usize
-    requires { at + response_size * length responses.now ≤ length out.old }
-    ensures { (result ≡ at + response_size * length responses.now) × (out.new ≡ sets out.old at (items (bytes response_size) responses.now)) }
-{
-    let mut p = at;
-    let mut i = 0;
-    while i < responses.len() {
-        p = put(out, p, RESPONSE_SIZE, responses[i] as u64);
-        i += 1;
-    }
-    p
+    place
 }
 
 // Bytes as they are.
@@ -61,12 +43,9 @@ fn put_bytes(out: &mut [u8], at: usize, list: &[u8]) -> usize
     requires { at + length list.now ≤ length out.old }
     ensures { (result ≡ at + length list.now) × (out.new ≡ sets out.old at list.now) }
 {
-    let mut i = 0;
-    while i < list.len() {
-        out[at + i] = list[i];
-        i += 1;
-    }
-    at + i
+    let end = at + list.len();
+    out[at..end].copy_from_slice(list);
+    end
 }
 
 // The three sections before the job.
@@ -81,7 +60,7 @@ pub fn put_machine(out: &mut [u8], words: &[u64], responses: &[Response], width:
     let p2 = put(out, p1, COUNT_SIZE, n as u64);
     let p3 = put_words(out, p2, words);
     let p4 = put(out, p3, COUNT_SIZE, m as u64);
-    put_responses(out, p4, responses)
+    put_bytes(out, p4, responses)
 }
 
 // "kind .., key, care, X, Y, lowest bit and width of A, B, P, phase, i, j, then c in 8 bytes, low first"
@@ -89,8 +68,7 @@ pub fn put_job(out: &mut [u8], at: usize, o: Job) -> usize
     requires { at + record_size ≤ length out.old }
     ensures { (result ≡ at + record_size) × (out.new ≡ sets out.old at (job_bytes o)) }
 {
-    let kind = [o.kind];
-    let p0 = put_bytes(out, at, &kind);
+    let p0 = put_bytes(out, at, &[o.kind]);
     let p1 = put(out, p0, RESPONSE_SIZE, o.key as u64);
     let p2 = put(out, p1, RESPONSE_SIZE, o.care as u64);
     let small = [
@@ -102,13 +80,13 @@ pub fn put_job(out: &mut [u8], at: usize, o: Job) -> usize
 }
 
 // "job, count 0 or 1"
-pub fn put_held(out: &mut [u8], at: usize, held: Held) -> usize
+pub fn put_held(out: &mut [u8], at: usize, held: Option<Job>) -> usize
     requires { past_section at record_size (length (held_jobs held)) ≤ length out.old }
     ensures { (result ≡ past_section at record_size (length (held_jobs held))) × (out.new ≡ sets out.old at (section job_bytes (held_jobs held))) }
 {
     match held {
-        Held::Nothing => put(out, at, COUNT_SIZE, 0),
-        Held::Holds(o) => {
+        None => put(out, at, COUNT_SIZE, 0),
+        Some(o) => {
             let p = put(out, at, COUNT_SIZE, 1);
             put_job(out, p, o)
         }

@@ -1,39 +1,25 @@
-use Prim.Native.Nat.{◌+◌, ◌-◌, ◌*◌, ◌≤◌}
-use mathlib.Core.Path.{◌≡◌, refl, sym, ◌∙◌}
+use mathlib.Core.Path.{◌≡◌, sym, ◌∙◌}
 use native.Mathlib.Omega.{arith}
-use lib.ListN.{length, drop}
-use lib.Seq.{sets}
 use borrow.Author.Rules.{rules}
+use lib.ListN.{length}
 use Rattle.image_layout.specs.Sizes.{word_size}
-use Rattle.image_layout.specs.Format.{bytes, items}
 use Rattle.image_stores.proofs.Stored.{items_turn, items_none}
 use Rattle.image_stores.proofs.put_words.Goals as goal
 
-pub loop-i-init : goal.loop-i-init
-loop-i-init c = (omega arith, omega arith, refl, refl)
-
-pub overflow_add-i : goal.overflow_add-i
-overflow_add-i c = omega arith
-
-pub loop-i-smaller : goal.loop-i-smaller
-loop-i-smaller c = omega arith
-
-pub loop-i-preserved : goal.loop-i-preserved
-loop-i-preserved c =
-    let l = c.loop-i in
+pub loop-word-preserved : goal.loop-word-preserved
+loop-word-preserved c =
+    let l = c.loop-word in
     let a = c.args in
-    let r = c.put-p in
-    let e : length r.new.out ≡ length l.out = r.auto.out in
-    let f : r.result ≡ l.p + word_size = r.ensures.0 in (
+    let r = c.put-place in
+    let e : length r.new.out ≡ length l.out = r.auto.out in (
+      omega (arith, r.ensures.0),
       omega arith,
-      omega arith,
-      omega arith,
-      rw (r.ensures.1, f) (sym (items_turn word_size l.out l.p a.words.now l.i (search rules)) ∙ l.invariant.3),
+      rw (r.ensures.1, r.ensures.0) (l.invariant.2 ∙ items_turn word_size l.out l.place a.words.now l.word-index (search rules)),
     )
 
 pub returns : goal.returns
 returns c =
-    let l = c.loop-i in
+    let l = c.loop-word in
     let a = c.args in
-    let e : l.i ≡ length a.words.now = omega arith in
-    (omega arith, sym (items_none word_size l.out l.p a.words.now) ∙ rw e at l.invariant.3)
+    let e : l.word-index ≡ length a.words.now = omega arith in
+    (omega arith, sym (rw e at l.invariant.2 ∙ items_none word_size l.out l.place a.words.now))
