@@ -8,22 +8,29 @@ use native.Mathlib.Omega.{arith}
 use lib.Dec.{ltb, leb}
 use lib.ListN.{length, take, drop, replicate, length-drop}
 use lib.Seq.{drop-drop}
-use borrow.Author.Tests.{lt-ltb, le-ltb, ltb-false, leb-true, leb-false, eq-eqb, ne_eqb}
+use borrow.Author.Tests.{lt-ltb, le-ltb, lt-leb, ltb-false, leb-true, leb-false, eq-eqb, ne_eqb}
 use Rattle.laws.specs.Bits.{pick}
 use Rattle.laws.proofs.Bits.{and_left, and_right}
-use Rattle.image_layout.specs.declared.Scanned.{Scanned}
-use Rattle.image_layout.specs.declared.Scanned.TheVariants.{Sound, Broken}
 use Rattle.image_layout.specs.Sizes.{count_size, word_size, response_size, record_size, most_jobs, items_at, past_section, width_at, words_at, responses_at, jobs_at}
-use Rattle.job_plans.specs.declared.Held.TheVariants.{Nothing, Holds}
 use Rattle.image_layout.specs.Format.{number_at, job_of, held_of}
-use Rattle.image_layout.specs.Reading.{Field, scan, count_is, word_count, width_byte, word_field, response_field, job_count, job_field, width_in, words_in, jobs_in, records, fields_of, scanned}
+use Rattle.image_layout.specs.Reading.{Field, scan, count_is, word_count, width_byte, word_field, response_field, job_count, job_field, width_in, words_in, jobs_in, records, fields_of, scanned, Scanned}
 use Rattle.image_parts.specs.Parts.{holds, onward, job_fields, after_words}
+use Rattle.std.specs.Prelude.{Ok, Err, IsErrAnd, Some, None}
+
+-- what `?` hands on is the very place
+pub handed : (d : Scanned) (e at : ℕ) → IsErrAnd d (λ y. y ≡ e) → e ≡ at → d ≡ Err at
+handed (Ok u) e at h g = absurd h
+handed (Err y) e at h g = ap (λ (q : ℕ). Err q) (h ∙ g)
 
 -- ---- one field
 
 pub holds_cut : (f : Field) (b : List ℕ) (at : ℕ) → length b - at < f.size → false ≡ holds f (drop at b)
 unfolding holds
 holds_cut f b at g = rw (lt-ltb (length (drop at b)) f.size (rw length-drop g))
+
+-- so in the code's terms
+pub cut_off : (f : Field) (b : List ℕ) (at : ℕ) → length b - at < f.size → leb f.size (length b - at) ≡ holds f (drop at b)
+cut_off f b at g = lt-leb f.size (length b - at) g ∙ holds_cut f b at g
 
 pub holds_read : (f : Field) (b : List ℕ) (at : ℕ) (r : Bool) → f.size ≤ length b - at → r ≡ f.right (take f.size (drop at b)) → r ≡ holds f (drop at b)
 unfolding holds
@@ -42,11 +49,11 @@ held f b at l h = go (ltb (length (drop at b)) f.size) refl h
     go true e g = absurd (let z : ◌≡◌ {A = ℕ} 0 1 = cc in omega arith)
     go false e g = record { fits = omega (arith, ltb-false (length (drop at b)) f.size e, length-drop at b); right = g }
 
-pub field_wrong : (f : Field) (fs : List Field) (b : List ℕ) (at : ℕ) → holds f (drop at b) ≡ false → scan (f ∷ fs) at (drop at b) ≡ Broken at
+pub field_wrong : (f : Field) (fs : List Field) (b : List ℕ) (at : ℕ) → holds f (drop at b) ≡ false → scan (f ∷ fs) at (drop at b) ≡ Err at
 unfolding holds scan
 field_wrong f fs b at h = go (ltb (length (drop at b)) f.size) (f.right (take f.size (drop at b))) h
   where
-    go : (t u : Bool) → pick t false u ≡ false → pick t (Broken at) (pick u (scan fs (at + f.size) (drop f.size (drop at b))) (Broken at)) ≡ Broken at
+    go : (t u : Bool) → pick t false u ≡ false → pick t (Err at) (pick u (scan fs (at + f.size) (drop f.size (drop at b))) (Err at)) ≡ Err at
     go true u e = refl
     go false true e = cc
     go false false e = refl
@@ -58,18 +65,18 @@ field_right f fs b at h =
     go (ltb (length (drop at b)) f.size) (f.right (take f.size (drop at b))) h ∙ ap (scan fs (at + f.size)) (drop-drop f.size at b)
   where
     go : (t u : Bool) → pick t false u ≡ true
-        → pick t (Broken at) (pick u (scan fs (at + f.size) (drop f.size (drop at b))) (Broken at)) ≡ scan fs (at + f.size) (drop f.size (drop at b))
+        → pick t (Err at) (pick u (scan fs (at + f.size) (drop f.size (drop at b))) (Err at)) ≡ scan fs (at + f.size) (drop f.size (drop at b))
     go true u e = cc
     go false true e = refl
     go false false e = cc
 
 -- ---- after the last field
 
-pub too_many : (b : List ℕ) (at : ℕ) → at < length b → scan [] at (drop at b) ≡ Broken at
+pub too_many : (b : List ℕ) (at : ℕ) → at < length b → scan [] at (drop at b) ≡ Err at
 unfolding scan
 too_many b at h = rw (ne_eqb (length (drop at b)) 0 (λ e. omega (arith, length-drop at b, e)))
 
-pub all_read : (b : List ℕ) (at : ℕ) → length b ≤ at → scan [] at (drop at b) ≡ Sound
+pub all_read : (b : List ℕ) (at : ℕ) → length b ≤ at → scan [] at (drop at b) ≡ Ok tt
 unfolding scan
 all_read b at h = rw (eq-eqb (length (drop at b)) 0 (omega (arith, length-drop at b)))
 
@@ -94,39 +101,39 @@ responses_right b (suc n) p fs h =
 
 -- the first that is not whole: after as many as fit
 pub responses_cut : (b : List ℕ) (n p : ℕ) (fs : List Field) → p ≤ length b → length b < p + response_size * n
-    → scan (replicate n response_field ++ fs) p (drop p b) ≡ Broken (length b - (length b - p) % response_size)
+    → scan (replicate n response_field ++ fs) p (drop p b) ≡ Err (length b - (length b - p) % response_size)
 responses_cut b zero p fs h g = absurd (omega arith)
 responses_cut b (suc n) p fs h g = go (leb (p + response_size) (length b)) refl (λ k l. responses_cut b n (p + response_size) fs k l)
   where
     go : (t : Bool) → leb (p + response_size) (length b) ≡ t
         → (p + response_size ≤ length b → length b < p + response_size + response_size * n
-        → scan (replicate n response_field ++ fs) (p + response_size) (drop (p + response_size) b) ≡ Broken (length b - (length b - (p + response_size)) % response_size))
-        → scan (replicate (suc n) response_field ++ fs) p (drop p b) ≡ Broken (length b - (length b - p) % response_size)
+        → scan (replicate n response_field ++ fs) (p + response_size) (drop (p + response_size) b) ≡ Err (length b - (length b - (p + response_size)) % response_size))
+        → scan (replicate (suc n) response_field ++ fs) p (drop p b) ≡ Err (length b - (length b - p) % response_size)
     go true e r =
         let l : p + response_size ≤ length b = leb-true (p + response_size) (length b) e in
         let f : length b - (length b - (p + response_size)) % response_size ≡ length b - (length b - p) % response_size = omega arith in
-        field_right response_field _ b p (responds b p l) ∙ r l (omega arith) ∙ ap (λ (q : ℕ). Broken q) f
+        field_right response_field _ b p (responds b p l) ∙ r l (omega arith) ∙ ap (λ (q : ℕ). Err q) f
     go false e r =
         let l : length b < p + response_size = leb-false (p + response_size) (length b) e in
         let f : p ≡ length b - (length b - p) % response_size = omega arith in
-        field_wrong response_field _ b p (sym (holds_cut response_field b p (omega arith))) ∙ ap (λ (q : ℕ). Broken q) f
+        field_wrong response_field _ b p (sym (holds_cut response_field b p (omega arith))) ∙ ap (λ (q : ℕ). Err q) f
 
 -- ---- what sound bytes show, field by field
 
 pub record Next (f : Field) (fs : List Field) (b : List ℕ) (at : ℕ) : Type 0 where
   pub held : Held f b at
-  pub rest : scan fs (at + f.size) (drop (at + f.size) b) ≡ Sound
+  pub rest : scan fs (at + f.size) (drop (at + f.size) b) ≡ Ok tt
 
-pub next : (f : Field) (fs : List Field) (b : List ℕ) (at : ℕ) → at ≤ length b → scan (f ∷ fs) at (drop at b) ≡ Sound → Next f fs b at
+pub next : (f : Field) (fs : List Field) (b : List ℕ) (at : ℕ) → at ≤ length b → scan (f ∷ fs) at (drop at b) ≡ Ok tt → Next f fs b at
 next f fs b at l h = go (holds f (drop at b)) refl
   where
     go : (t : Bool) → holds f (drop at b) ≡ t → Next f fs b at
     go true e = record { held = held f b at l e; rest = sym (field_right f fs b at e) ∙ h }
-    go false e = absurd (let g : scan (f ∷ fs) at (drop at b) ≡ Broken at = field_wrong f fs b at e in let z : ◌≡◌ {A = ℕ} 0 1 = cc in omega arith)
+    go false e = absurd (let g : scan (f ∷ fs) at (drop at b) ≡ Err at = field_wrong f fs b at e in let z : ◌≡◌ {A = ℕ} 0 1 = cc in omega arith)
 
 -- n like fields
-pub run : (f : Field) (n : ℕ) (fs : List Field) (b : List ℕ) (at : ℕ) → at ≤ length b → scan (replicate n f ++ fs) at (drop at b) ≡ Sound
-    → (at + f.size * n ≤ length b) × (scan fs (at + f.size * n) (drop (at + f.size * n) b) ≡ Sound)
+pub run : (f : Field) (n : ℕ) (fs : List Field) (b : List ℕ) (at : ℕ) → at ≤ length b → scan (replicate n f ++ fs) at (drop at b) ≡ Ok tt
+    → (at + f.size * n ≤ length b) × (scan fs (at + f.size * n) (drop (at + f.size * n) b) ≡ Ok tt)
 run f zero fs b at l h = let e : at + f.size * 0 ≡ at = omega (arith, mul-zero f.size) in (omega (arith, mul-zero f.size), rw e h)
 run f (suc n) fs b at l h =
     let s = next f (replicate n f ++ fs) b at l h in
@@ -140,7 +147,7 @@ pub record Long (b : List ℕ) : Type 0 where
   pub room : past_section (jobs_at (words_in b)) record_size (jobs_in b) ≤ length b
   pub some : 1 ≤ words_in b
 
-pub long : (b : List ℕ) → scanned b ≡ Sound → Long b
+pub long : (b : List ℕ) → scanned b ≡ Ok tt → Long b
 unfolding scanned fields_of
 long b h =
     let n = words_in b in
@@ -168,7 +175,7 @@ word_step w i b fs h =
 
 module _ (w n : ℕ) (b : List ℕ) (h : holds (count_is n) (drop (responses_at n) b) ≡ true) where
   pub after_cut : responses_at n ≤ length b → length b - items_at (responses_at n) < response_size * n
-      → scan (after_words w n b) (responses_at n) (drop (responses_at n) b) ≡ Broken (length b - (length b - items_at (responses_at n)) % response_size)
+      → scan (after_words w n b) (responses_at n) (drop (responses_at n) b) ≡ Err (length b - (length b - items_at (responses_at n)) % response_size)
   after_cut l g =
       let f : items_at (responses_at n) ≤ length b = (held (count_is n) b (responses_at n) l h).fits in
       field_right (count_is n) _ b (responses_at n) h ∙ responses_cut b n (items_at (responses_at n)) _ f (omega arith)
@@ -196,27 +203,27 @@ pub job_end : (w at : ℕ) (b : List ℕ) → holds (job_field w) (drop at b) �
 job_end w at b h = field_right (job_field w) [] b at h
 
 -- the held job of a count that is 0, or not
-pub none_held : (v : ℕ) (b : List ℕ) → v ≡ 0 → Nothing ≡ held_of (records v b)
+pub none_held : (v : ℕ) (b : List ℕ) → v ≡ 0 → None ≡ held_of (records v b)
 unfolding records
 none_held v b e = rw e
 
-pub one_held : (v : ℕ) (b : List ℕ) → (v ≡ 0 → ⊥) → Holds (job_of (take record_size b)) ≡ held_of (records v b)
+pub one_held : (v : ℕ) (b : List ℕ) → (v ≡ 0 → ⊥) → Some (job_of (take record_size b)) ≡ held_of (records v b)
 unfolding records
 one_held zero b g = absurd (g refl)
 one_held (suc v) b g = refl
 
 -- the first three fields
 
-pub head_count : (b : List ℕ) → holds (count_is 1) b ≡ false → Broken width_at ≡ scanned b
+pub head_count : (b : List ℕ) → holds (count_is 1) b ≡ false → Err width_at ≡ scanned b
 unfolding scanned fields_of
 head_count b h = sym (field_wrong (count_is 1) _ b width_at h)
 
 module _ (b : List ℕ) (h : holds (count_is 1) b ≡ true) where
-  pub head_width : holds width_byte (drop (items_at width_at) b) ≡ false → Broken (items_at width_at) ≡ scanned b
+  pub head_width : holds width_byte (drop (items_at width_at) b) ≡ false → Err (items_at width_at) ≡ scanned b
   unfolding scanned fields_of
   head_width g = sym (field_right (count_is 1) _ b width_at h ∙ field_wrong width_byte _ b (items_at width_at) g)
 
-  pub head_words : holds width_byte (drop (items_at width_at) b) ≡ true → holds word_count (drop words_at b) ≡ false → Broken words_at ≡ scanned b
+  pub head_words : holds width_byte (drop (items_at width_at) b) ≡ true → holds word_count (drop words_at b) ≡ false → Err words_at ≡ scanned b
   unfolding scanned fields_of
   head_words g f = sym (field_right (count_is 1) _ b width_at h ∙ field_right width_byte _ b (items_at width_at) g ∙ field_wrong word_count _ b words_at f)
 
@@ -240,12 +247,12 @@ head b h g f =
 -- the words, by what looking at them found
 module _ (b : List ℕ) (w n : ℕ) (r : Scanned) (t : Head b) (v : w ≡ width_in b) (e : n ≡ words_in b)
     (h : (fs : List Field) → scan (replicate n (word_field w) ++ fs) (items_at words_at) (drop (items_at words_at) b) ≡ onward r (scan fs (responses_at n) (drop (responses_at n) b))) where
-  pub words_broken : (at : ℕ) → r ≡ Broken at → Broken at ≡ scanned b
+  pub words_broken : (at : ℕ) → r ≡ Err at → Err at ≡ scanned b
   words_broken at g =
       let f = rw (e, v) at (h (after_words w n b)) in
       sym (t.past ∙ f ∙ rw g)
 
-  pub words_sound : (q : Scanned) → r ≡ Sound → q ≡ scan (after_words w n b) (responses_at n) (drop (responses_at n) b) → q ≡ scanned b
+  pub words_sound : (q : Scanned) → r ≡ Ok tt → q ≡ scan (after_words w n b) (responses_at n) (drop (responses_at n) b) → q ≡ scanned b
   words_sound q g i =
       let f = rw (e, v) at (h (after_words w n b)) in
       let j = rw (e, v) at i in

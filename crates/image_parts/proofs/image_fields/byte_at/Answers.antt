@@ -2,7 +2,6 @@ use mathlib.Core.Path.{sym, ◌∙◌}
 use lib.ListN.{drop}
 use lib.Seq.{get_or-take, get_or-drop}
 use Rattle.image_layout.specs.Sizes.{record_size}
-use borrow.Author.Rules.{rules}
 use Rattle.image_parts.proofs.image_fields.byte_at.Goals as goal
 
 pub returns : goal.returns

@@ -5,7 +5,6 @@ use Rattle.machine.specs.declared.ResponseBit.{ResponseBit}
 use lib.ListN.{take, drop}
 use Rattle.image_layout.specs.Sizes.{response_size, record_size, bits_at, constant_size}
 use Rattle.image_layout.proofs.Format.{in_record, made}
-use borrow.Author.Rules.{rules}
 use Rattle.image_parts.proofs.image_fields.job_at.Goals as goal
 
 bit_made : (x y : ℕ) → x ≡ y → ◌≡◌ {A = ResponseBit} (record { 0 = x }) (record { 0 = y })
@@ -17,7 +16,7 @@ returns c =
     let b = a.image.now in
     made (take record_size (drop a.at b)) _ _ _ _ _ _ _ _ _ _ _ _ c.byte_at.ensures
     (c.response_at.ensures ∙ in_record b a.at 1 response_size (omega arith)) (c.response_at-2.ensures ∙ in_record b a.at (1 + response_size) response_size (omega arith))
-    (bit_made _ _ c.byte_at-x.ensures) (bit_made _ _ c.byte_at-y.ensures)
-    c.span_at-sa.ensures c.span_at-sb.ensures c.span_at-sp.ensures
-    c.byte_at-2.ensures c.byte_at-3.ensures c.byte_at-4.ensures
-    (c.number_at-c.ensures.0 ∙ in_record b a.at (bits_at + 11) constant_size (omega arith))
+    (bit_made _ _ c.byte_at-2.ensures) (bit_made _ _ c.byte_at-3.ensures)
+    c.span_at.ensures c.span_at-2.ensures c.span_at-3.ensures
+    c.byte_at-4.ensures c.byte_at-5.ensures c.byte_at-6.ensures
+    (c.number_at.ensures.0 ∙ in_record b a.at (bits_at + 11) constant_size (omega arith))

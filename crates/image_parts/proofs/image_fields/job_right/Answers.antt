@@ -1,23 +1,21 @@
-use mathlib.Core.Path.{sym, ap, ◌∙◌}
-use mathlib.Core.Bool.{true, false}
-use Rattle.machine.specs.Refusals.{passes}
+use mathlib.Core.Path.{◌≡◌, refl, ap, ◌∙◌}
+use Rattle.std.specs.Prelude.{Ok, Err}
+use Rattle.std.specs.Result.{is_ok}
+use Rattle.machine.specs.Refusals.{Check, passes}
 use Rattle.job_plans.specs.Places.{held_check}
 use Rattle.image_layout.specs.Reading.{job_field}
-use Rattle.image_parts.proofs.Parts.{holds_cut, holds_read}
-use borrow.Author.Rules.{rules}
+use Rattle.image_parts.proofs.Parts.{cut_off, holds_read}
 use Rattle.image_parts.proofs.image_fields.job_right.Goals as goal
 
-pub returns-then-image-at-lt-RECORD_SIZE : goal.returns-then-image-at-lt-RECORD_SIZE
-returns-then-image-at-lt-RECORD_SIZE c = let a = c.args in holds_cut (job_field a.width) a.image.now a.at c.if-image-at-lt-RECORD_SIZE.true
+ok_passes : (c : Check) → is_ok c ≡ passes c
+ok_passes (Ok u) = refl
+ok_passes (Err r) = refl
 
-pub returns-in-Passed : goal.returns-in-Passed
-returns-in-Passed c =
+pub returns-then-image-at-ge-RECORD_SIZE : goal.returns-then-image-at-ge-RECORD_SIZE
+returns-then-image-at-ge-RECORD_SIZE c =
     let a = c.args in
-    holds_read (job_field a.width) a.image.now a.at true c.if-image-at-lt-RECORD_SIZE.false
-    (ap passes (sym c.in-Passed.is ∙ c.check_held-check.ensures ∙ ap (held_check a.width) c.job_at.ensures))
+    holds_read (job_field a.width) a.image.now a.at _ c.if-image-at-ge-RECORD_SIZE.true
+    (c.is_ok.ensures.value ∙ ok_passes _ ∙ ap passes (c.check_held.ensures ∙ ap (held_check a.width) c.job_at.ensures))
 
-pub returns-in-Refused : goal.returns-in-Refused
-returns-in-Refused c =
-    let a = c.args in
-    holds_read (job_field a.width) a.image.now a.at false c.if-image-at-lt-RECORD_SIZE.false
-    (ap passes (sym c.in-Refused.is ∙ c.check_held-check.ensures ∙ ap (held_check a.width) c.job_at.ensures))
+pub returns-else-image-at-ge-RECORD_SIZE : goal.returns-else-image-at-ge-RECORD_SIZE
+returns-else-image-at-ge-RECORD_SIZE c = let a = c.args in cut_off (job_field a.width) a.image.now a.at c.if-image-at-ge-RECORD_SIZE.false

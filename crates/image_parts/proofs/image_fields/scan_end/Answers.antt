@@ -5,5 +5,5 @@ use Rattle.image_parts.proofs.image_fields.scan_end.Goals as goal
 pub returns-then-at-image : goal.returns-then-at-image
 returns-then-at-image c = let a = c.args in sym (too_many a.image.now a.at c.if-at-image.true)
 
-pub returns : goal.returns
-returns c = let a = c.args in sym (all_read a.image.now a.at c.if-at-image.false)
+pub returns-else-at-image : goal.returns-else-at-image
+returns-else-at-image c = let a = c.args in sym (all_read a.image.now a.at c.if-at-image.false)
