@@ -32,7 +32,7 @@ pub onward : (r : Refusal) (t : Bool) (c d : Check) → t ≡ false → d ≡ c 
 onward r t c d h e = rw h e
 
 -- what `?` hands on is the very refusal
-pub handed : {A : Type 0} (d : Result A Refusal) (e : Refusal) → IsErrAnd d (λ y. y ≡ e) → d ≡ Err e
+pub handed : {A R : Type 0} (d : Result A R) (e : R) → IsErrAnd d (λ y. y ≡ e) → d ≡ Err e
 handed (Ok x) e h = absurd h
 handed (Err y) e h = ap Err h
 

@@ -61,13 +61,13 @@ Check = Result (Unit {0}) Refusal
 
 infixr 20 ◌else◌
 -- the first check, and where it passes the second
-abbrev pub ◌else◌ : Check → Check → Check
+abbrev pub ◌else◌ : {R : Type 0} → Result (Unit {0}) R → Result (Unit {0}) R → Result (Unit {0}) R
 (Ok tt) else c = c
 Err r else c = Err r
 
-abbrev pub refuse : Refusal → Bool → Check
+abbrev pub refuse : {R : Type 0} → R → Bool → Result (Unit {0}) R
 refuse r true = Err r
-refuse r false = (Ok tt)
+refuse r false = Ok tt
 
 -- 3 also answers the "lowest such word"
 abbrev pub refuse_word : Option WordSlice → Check
@@ -116,7 +116,7 @@ care_check care x = refuse BitsClash (in_care care x)
 -- ---- what a pulse answers, and what stands in the machine afterwards
 
 -- a refusal, or where the check passes the call's own answer
-abbrev pub answer_by : {A : Type 0} → Check → A → Result A Refusal
+abbrev pub answer_by : {A R : Type 0} → Result (Unit {0}) R → A → Result A R
 answer_by (Ok tt) done = Ok done
 answer_by (Err r) done = Err r
 
@@ -124,7 +124,7 @@ unfoldable pub answer_of : Machine → Panel → Lines → Result Answer Refusal
 answer_of m p l = answer_by (pulse_check m p l) (record { count = count_of m p l; read = read_of m p l })
 
 -- "Nothing lent changes"
-abbrev pub change_by : {A : Type 0} → Check → A → A → A
+abbrev pub change_by : {A R : Type 0} → Result (Unit {0}) R → A → A → A
 change_by (Ok tt) new old = new
 change_by (Err r) new old = old
 

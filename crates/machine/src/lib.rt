@@ -309,7 +309,7 @@ pub fn response_of(x: u64) -> Response
 
 // ---- a chain of checks: "Checked in number order"
 
-pub fn refuse(why: Refusal, when: bool) -> Result<(), Refusal>
+pub fn refuse<R: Drop>(why: R, when: bool) -> Result<(), R>
     ensures { result ≡ refuse why when }
 {
     if when { Err(why) } else { Ok(()) }
