@@ -1,4 +1,2 @@
 -- laws that the functions' proofs cite
-pub mod Answers
-pub mod Ran
 pub mod Running

@@ -1,16 +1,11 @@
 -- What the commands start, step, run and total do, in the words of docs/BOARD.md, on the board's machine and the job it holds (`state`).
 -- `args` are the words after the command's name.
-use Rattle.std.specs.Prelude.{ℕ, zero, suc, ◌-◌, ◌^◌, List}
+use Rattle.std.specs.Prelude.{ℕ, zero, suc, ◌-◌, ◌^◌, List, Some, Result, Ok, Err}
 use Rattle.laws.specs.Bits.{pick}
+use Rattle.machine.specs.declared.Refusal.{Refusal}
 use Rattle.job_plans.specs.declared.Job.{Job}
-use Rattle.job_plans.specs.declared.Held.TheVariants.{Holds}
-use Rattle.job_tally.specs.declared.Total.{Total}
-use Rattle.job_tally.specs.declared.Total.TheVariants as total
 use Rattle.job_tally.specs.Totals.{total_of}
-use Rattle.jobs.specs.declared.Started.{Started}
-use Rattle.jobs.specs.declared.Started.TheVariants as started
 use Rattle.jobs.specs.declared.Stepped.{Stepped}
-use Rattle.jobs.specs.declared.Stepped.TheVariants as stepped
 use Rattle.jobs.specs.Calls.{is_held, start_of, step_of}
 use Rattle.jobs.specs.Runs as runs
 use Rattle.jobs.specs.Runs.{State, steps}
@@ -45,9 +40,9 @@ offered args =
       c = number_at row 11;
     }
 
-abbrev pub begun : Board → Started → Turn
-begun b (started.Holds job) = fine (holding b (Holds job))
-begun b (started.Refused why) = refused b why
+abbrev pub begun : Board → Result Job Refusal → Turn
+begun b (Ok job) = fine (holding b (Some job))
+begun b (Err why) = refused b why
 
 -- "start ..: starts a job"
 abbrev pub start_turn : Board → List (List ℕ) → State → Turn
@@ -57,10 +52,10 @@ start_turn b args s =
 -- ---- step
 
 -- "L comp HEX .. count C held .. `ended` in place of `held` after the last pulse", or the refusal
-abbrev pub given : Board → Stepped → Turn
-given b (stepped.Gave command count held) =
-    record { board = holding b held; outcome = outcome.Gave command count (is_held held) }
-given b (stepped.Refused why) = refused b why
+abbrev pub given : Board → Result Stepped Refusal → Turn
+given b (Ok step) =
+    record { board = holding b step.held; outcome = outcome.Gave step.command step.count (is_held step.held) }
+given b (Err why) = refused b why
 
 -- "step: one job step"
 abbrev pub step_turn : Board → List (List ℕ) → State → Turn
@@ -71,9 +66,9 @@ step_after args s = pick (fits "" args) (runs.stepped s) s
 
 -- ---- run
 
-abbrev pub one_more : Stepped → ℕ → ℕ
-one_more (stepped.Gave command count held) k = suc k
-one_more (stepped.Refused why) k = 0
+abbrev pub one_more : Result Stepped Refusal → ℕ → ℕ
+one_more (Ok step) k = suc k
+one_more (Err why) k = 0
 
 -- "steps until no job is held or a step is refused": how many are accepted, of at most `most`; a step without a job is refused
 unfoldable pub accepted : ℕ → State → ℕ
@@ -87,20 +82,25 @@ most = 2 ^ 64 - 1
 abbrev pub run_after : List (List ℕ) → State → State
 run_after args s = pick (fits "" args) (steps (accepted most s) s) s
 
+-- so many steps, or the refusal of the first
+abbrev pub steps_or : Result Stepped Refusal → ℕ → Result ℕ Refusal
+steps_or (Ok step) k = Ok k
+steps_or (Err why) k = Err why
+
 -- "pulses K, K the steps accepted; a refusal of the first step, also for want of a job, prints as a refusal"
-abbrev pub ran : Board → Stepped → State → Turn
-ran b (stepped.Gave command count held) s =
+abbrev pub ran : Board → Result Stepped Refusal → State → Turn
+ran b (Ok step) s =
     record { board = holding b (steps (accepted most s) s).held; outcome = outcome.Pulses (accepted most s) }
-ran b (stepped.Refused why) s = refused b why
+ran b (Err why) s = refused b why
 
 abbrev pub run_turn : Board → List (List ℕ) → State → Turn
 run_turn b args s = pick (fits "" args) (ran b (step_of s.machine s.held) s) (bad_line b)
 
 -- ---- total
 
-abbrev pub counted : Total → Outcome
-counted (total.Pulses k) = outcome.Pulses k
-counted (total.Refused why) = outcome.Refused why
+abbrev pub counted : Result ℕ Refusal → Outcome
+counted (Ok k) = outcome.Pulses k
+counted (Err why) = outcome.Refused why
 
 -- "total: the pulses that the held job, just started, will take in all, worked out without running it"
 abbrev pub total_outcome : List (List ℕ) → State → Outcome

@@ -1,41 +1,43 @@
-use mathlib.Core.Path.{◌≡◌, refl}
+-- A turn is taken, or is the first that is refused; or none is left.
 use native.Mathlib.Omega.{arith}
-use borrow.Author.Rules.{rules}
-use lib.ListN.{length}
-use Rattle.jobs.specs.Runs.{state}
-use Rattle.console_working.proofs.Running.{Left, all_left, went_on, stopped, finished}
+use Rattle.console_working.specs.Jobs.{most}
+use Rattle.console_working.proofs.Running.{finished, went_on, refused, stopped}
 use Rattle.console_working.proofs.to_the_end.Goals as goal
 
-pub loop-turns-init : goal.loop-turns-init
-loop-turns-init c = (refl, refl, all_left _ _)
-
-pub overflow_sub-result : goal.overflow_sub-result
-overflow_sub-result c = c.loop-turns.invariant.2.within
-
-pub returns-in_default : goal.returns-in_default
-returns-in_default c =
-    let t = c.args in
-    let l = c.loop-turns in
-    let a = c.step-stepped in let q = stopped t.most t.width (state t.width t.words.now t.responses.now t.first) l.words l.responses l.held l.turns l.invariant.2 (omega arith) a.result a.ensures.value _ _ a.ensures.words_after a.ensures.responses_after _ c.in_default.is in record {
-      steps_value = q.0;
-      held_value = q.1.0;
+pub returns-in-Err : goal.returns-in-Err
+returns-in-Err c =
+    let l = c.loop-taken in
+    let e = c.in-Err in
+    let q = refused most c.args.width _ l.words l.responses l.held l.taken l.invariant _ _ e.ensures.words_after e.ensures.responses_after e.why e.ensures.value c.if-taken-eq0.true in record {
+      value = q.0;
+      held_after = q.1.0;
       words_after = q.1.1.0;
       responses_after = q.1.1.1;
     }
 
-pub loop-turns-preserved : goal.loop-turns-preserved
-loop-turns-preserved c =
-    let t = c.args in
-    let l = c.loop-turns in
-    let a = c.step-stepped in
-    (search rules, search rules, went_on t.most t.width (state t.width t.words.now t.responses.now t.first) l.words l.responses l.held l.turns l.invariant.2 (omega arith) a.result a.ensures.value _ _ a.ensures.words_after a.ensures.responses_after _ _ _ c.in-Gave.is)
+pub returns-in-Err-2 : goal.returns-in-Err-2
+returns-in-Err-2 c =
+    let l = c.loop-taken in
+    let e = c.in-Err-2 in
+    let q = stopped most c.args.width _ l.words l.responses l.held l.taken l.invariant _ _ e.ensures.words_after e.ensures.responses_after _ e.ensures.value (omega arith) in record {
+      value = q.0;
+      held_after = q.1.0;
+      words_after = q.1.1.0;
+      responses_after = q.1.1.1;
+    }
+
+pub loop-taken-preserved : goal.loop-taken-preserved
+loop-taken-preserved c =
+    let l = c.loop-taken in
+    let e = c.in-Ok in
+    went_on most c.args.width _ l.words l.responses l.held l.taken l.invariant _ _ e.ensures.words_after e.ensures.responses_after (omega arith) e.step e.ensures.value
 
 pub returns : goal.returns
 returns c =
-    let t = c.args in
-    let l = c.loop-turns in let q = finished t.most t.width (state t.width t.words.now t.responses.now t.first) l.words l.responses l.held l.turns l.invariant.2 (omega arith) in record {
-      steps_value = q.0;
-      held_value = q.1.0;
+    let l = c.loop-taken in
+    let q = finished most c.args.width _ l.words l.responses l.held l.taken l.invariant (omega arith) (omega arith) in record {
+      value = q.0;
+      held_after = q.1.0;
       words_after = q.1.1.0;
       responses_after = q.1.1.1;
     }
