@@ -1,0 +1,2 @@
+-- what stands after a line
+pub mod Taking
