@@ -10,10 +10,10 @@ use lib.ListN.{get_or, take, drop, take-append-drop}
 use Rattle.laws.specs.Bits.{pick}
 use Rattle.text.specs.Rows.{fits}
 use Rattle.array.specs.declared.Answer.{Answer}
-use Rattle.array.specs.declared.Answer.TheVariants as answer
 use Rattle.array.specs.Refusals.{answer_of}
-use Rattle.array_lines.specs.declared.Asked.{Asked}
-use Rattle.array_lines.specs.declared.Asked.TheVariants.{Is, Bad}
+use Rattle.array.specs.declared.Refusal.{Refusal}
+use Rattle.array.specs.declared.Operation.{Operation}
+use Rattle.std.specs.Prelude.{Option, Some, None, Result, Ok, Err}
 use Rattle.array_lines.specs.Choices.{place_in, is_in, search_line, read_line, write_line}
 use Rattle.array_console.specs.declared.Rack.{Rack}
 use Rattle.array_console.specs.declared.Outcome.TheVariants as outcome
@@ -38,13 +38,13 @@ wrong_turn false k k' e = refl
 -- ---- the commands
 
 -- what an operation answers is no bad line
-answered_other : (k : Rack) (t : Answer) → (answered k t).outcome ≡ outcome.BadLine → ⊥
-answered_other k (answer.Done r c) e = let z : ◌≡◌ {A = ℕ} 0 1 = cc in absurd (omega arith)
-answered_other k (answer.Refused why) e = let z : ◌≡◌ {A = ℕ} 0 1 = cc in absurd (omega arith)
+answered_other : (k : Rack) (t : Result Answer Refusal) → (answered k t).outcome ≡ outcome.BadLine → ⊥
+answered_other k (Ok a) e = let z : ◌≡◌ {A = ℕ} 0 1 = cc in absurd (omega arith)
+answered_other k (Err why) e = let z : ◌≡◌ {A = ℕ} 0 1 = cc in absurd (omega arith)
 
-operated_still : (b : Bench) (asked : Asked) → Still b (operated b asked)
-operated_still b (Is o) e = absurd (answered_other b.rack (answer_of (array_of b) b.rack.registers o) e)
-operated_still b Bad e = (refl, refl, refl, refl)
+operated_still : (b : Bench) (asked : Option Operation) → Still b (operated b asked)
+operated_still b (Some o) e = absurd (answered_other b.rack (answer_of (array_of b) b.rack.registers o) e)
+operated_still b None e = (refl, refl, refl, refl)
 
 load_still : (k : Rack) (args : List (List ℕ)) → (loaded k args).outcome ≡ outcome.BadLine → (loaded k args).rack ≡ k
 unfolding loaded

@@ -1,10 +1,9 @@
 -- A register's name and its number on a line, and the rack after the load.
 use Prim.Native.Nat.{ℕ, ◌-◌}
-use mathlib.Core.Bool.{Bool, true, false, not, ◌&&◌}
+use mathlib.Core.Bool.{true, false, ◌&&◌}
 use mathlib.Core.Path.{◌≡◌, refl}
 use mathlib.Core.List.{List, [], ◌∷◌}
 use native.Mathlib.Omega.{arith}
-use borrow.Author.Tests.{not-true, not-false}
 use lib.ListN.{length, take, drop, get_or, length-drop}
 use lib.Seq.{take_all}
 use Rattle.laws.specs.Bits.{pick}
@@ -15,7 +14,7 @@ use Rattle.array.specs.declared.Sink.{Sink}
 use Rattle.array.specs.Registers as registers
 use Rattle.array_lines.specs.declared.Choice.{Choice}
 use Rattle.array_lines.specs.Choices.{place_in, is_in, sink_at}
-use Rattle.array_lines.proofs.Names.{not_in, Chose, chose_in}
+use Rattle.array_lines.proofs.Names.{not_in, Chose, Missed}
 use Rattle.array_console.specs.declared.Rack.{Rack}
 use Rattle.array_console.specs.declared.Turn.{Turn}
 use Rattle.array_console.specs.declared.Outcome.TheVariants as outcome
@@ -43,23 +42,23 @@ after_is line from = take_all (length line - from) (drop from line) (omega (arit
 
 -- ---- load3 R HEX
 
-module _ (k : Rack) (line : List ℕ) (c : Choice) (chose : Chose line 0 "r1 r2 m" 3 c) where
-  split : loaded k (words_of line) ≡
-      pick (c.right && fits "x" (words_of (after line c.to)))
-      (ended (loaded_at k c.place (number_at (values "x" (words_of (after line c.to))) 0)) outcome.Fine)
-      (ended k outcome.BadLine)
+module _ (k : Rack) (line : List ℕ) where
+  pub unnamed : Missed line 0 "r1 r2 m" 3 → ended k outcome.BadLine ≡ loaded k (words_of line)
   unfolding words_of joined
-  split = rw (loaded_is, after_is line c.to, chose.1.1, chose_in line 0 "r1 r2 m" c chose, chose.0.0)
+  unnamed h = rw (loaded_is, ← h)
 
-  pub unnamed : not c.right ≡ true → ended k outcome.BadLine ≡ loaded k (words_of line)
-  unnamed h = rw (split, not-true c.right h)
+  module _ (c : Choice) (chose : Chose line 0 "r1 r2 m" 3 c) where
+    split : loaded k (words_of line) ≡
+        pick (fits "x" (words_of (after line c.to)))
+        (ended (loaded_at k c.place (number_at (values "x" (words_of (after line c.to))) 0)) outcome.Fine)
+        (ended k outcome.BadLine)
+    unfolding words_of joined
+    split = rw (loaded_is, after_is line c.to, ← chose.0, chose.2.1, chose.1)
 
-  module _ (h : not c.right ≡ false) (right : Bool) (fit : right ≡ fits "x" (words_of (after line c.to))) where
-    pub misread : not right ≡ true → ended k outcome.BadLine ≡ loaded k (words_of line)
-    misread g = rw (split, not-false c.right h, ← fit, not-true right g)
+    pub misread : false ≡ fits "x" (words_of (after line c.to)) → ended k outcome.BadLine ≡ loaded k (words_of line)
+    misread g = rw (split, ← g)
 
-    pub wellread : not right ≡ false → (row : List ℕ) → (right ≡ true → row ≡ values "x" (words_of (after line c.to))) →
+    pub wellread : true ≡ fits "x" (words_of (after line c.to)) → (row : List ℕ) → row ≡ values "x" (words_of (after line c.to)) →
         (s : Sink) → s ≡ sink_at c.place → (r : Registers) → r ≡ registers.load s (number_at row 0) k.registers →
-        (n : Rack) → n ≡ with_registers k r → (t : Turn) → t ≡ ended n outcome.Fine → t ≡ loaded k (words_of line)
-    wellread g row reads s e0 r e1 n e2 t e3 =
-        rw (split, not-false c.right h, ← fit, not-false right g, e3, e2, e1, e0, reads (not-false right g))
+        (t : Turn) → t ≡ ended (with_registers k r) outcome.Fine → t ≡ loaded k (words_of line)
+    wellread g row reads s e0 r e1 t e2 = rw (split, ← g, e2, e1, e0, reads)

@@ -1,16 +1,15 @@
 -- What the commands cells3, cell3, select3, load3, search3, read3, write3 and list3 do, in the words of docs/BOARD.md.
 -- `args` are the words after the command's name.
-use Rattle.std.specs.Prelude.{ℕ, Bool, ◌&&◌, List, [], ◌∷◌, ltb, length, replicate, set}
+use Rattle.std.specs.Prelude.{ℕ, Bool, ◌&&◌, List, [], ◌∷◌, ltb, length, replicate, set, Option, Some, None, Result, Ok, Err}
 use Rattle.laws.specs.Bits.{pick}
 use Rattle.text.specs.Rows.{fits, values, number_at, byte_at}
 use Rattle.array.specs.declared.Registers.{Registers}
 use Rattle.array.specs.declared.Answer.{Answer}
-use Rattle.array.specs.declared.Answer.TheVariants as answer
 use Rattle.array.specs.Registers as registers
 use Rattle.array.specs.Operations.{Array}
 use Rattle.array.specs.Refusals.{answer_of, after}
-use Rattle.array_lines.specs.declared.Asked.{Asked}
-use Rattle.array_lines.specs.declared.Asked.TheVariants.{Is, Bad}
+use Rattle.array.specs.declared.Refusal.{Refusal}
+use Rattle.array.specs.declared.Operation.{Operation}
 use Rattle.array_lines.specs.Choices.{place_in, is_in, sink_at}
 use Rattle.array_console.specs.declared.Rack.{Rack}
 use Rattle.array_console.specs.declared.Turn.{Turn}
@@ -82,14 +81,14 @@ list_outcome args = pick (fits "" args) outcome.Listing outcome.BadLine
 
 -- ---- the three operations: "the three operations print `count C`"
 
-abbrev pub answered : Rack → Answer → Turn
-answered k (answer.Done r count) = ended (with_registers k r) (outcome.Counted count)
-answered k (answer.Refused why) = ended k (outcome.Refused why)
+abbrev pub answered : Rack → Result Answer Refusal → Turn
+answered k (Ok a) = ended (with_registers k a.registers) (outcome.Counted a.count)
+answered k (Err why) = ended k (outcome.Refused why)
 
-abbrev pub operate_turn : Rack → Asked → Array → Turn
-operate_turn k (Is o) a = answered k (answer_of a k.registers o)
-operate_turn k Bad a = ended k outcome.BadLine
+abbrev pub operate_turn : Rack → Option Operation → Array → Turn
+operate_turn k (Some o) a = answered k (answer_of a k.registers o)
+operate_turn k None a = ended k outcome.BadLine
 
-abbrev pub operate_after : Rack → Asked → Array → Array
-operate_after k (Is o) a = after a k.registers o
-operate_after k Bad a = a
+abbrev pub operate_after : Rack → Option Operation → Array → Array
+operate_after k (Some o) a = after a k.registers o
+operate_after k None a = a

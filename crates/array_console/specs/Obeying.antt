@@ -1,9 +1,9 @@
 -- Which command a line for the array is, and all that stands after it: docs/BOARD.md, the table of the array's lines.
-use Rattle.std.specs.Prelude.{ℕ, Bool, ◌&&◌, List, [], ◌∷◌, ◌++◌, leb, eqb, length, get_or, take, drop}
+use Rattle.std.specs.Prelude.{ℕ, Bool, ◌&&◌, List, [], ◌∷◌, ◌++◌, leb, eqb, length, get_or, take, drop, Option}
 use Rattle.laws.specs.Bits.{pick}
 use Rattle.text.specs.Rows.{fits}
 use Rattle.array.specs.Operations.{Array, array}
-use Rattle.array_lines.specs.declared.Asked.{Asked}
+use Rattle.array.specs.declared.Operation.{Operation}
 use Rattle.array_lines.specs.Choices.{place_in, search_line, read_line, write_line}
 use Rattle.array_console.specs.declared.Rack.{Rack}
 use Rattle.array_console.specs.declared.Turn.{Turn}
@@ -36,7 +36,7 @@ only b t = buffers t b.ones b.xs b.selectors
 abbrev pub array_of : Bench → Array
 array_of b = array b.rack.width b.ones b.xs b.selectors
 
-abbrev pub operated : Bench → Asked → After
+abbrev pub operated : Bench → Option Operation → After
 operated b asked =
     let a = commands.operate_after b.rack asked (array_of b) in
     buffers (commands.operate_turn b.rack asked (array_of b)) a.ones a.xs a.selectors

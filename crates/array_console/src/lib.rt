@@ -2,19 +2,19 @@
 // the language.
 #![tactic(auto)]
 
-ghost use Rattle.std.specs.Prelude.{◌≡◌, length, replicate};
+ghost use Rattle.std.specs.Prelude.{◌≡◌};
 ghost use Rattle.text.specs.Words.{words_of};
 ghost use Rattle.text.specs.Rows.{fits};
 ghost use Rattle.array.specs.Operations.{array};
 ghost use Rattle.array_console.specs.Commands as commands;
 ghost use Rattle.array_console.specs.Obeying as obeying;
 
-use array::{Answer, Refusal, Registers};
-use array_lines::{Asked, choose};
+use array::{Operation, Refusal, Registers};
+use array_lines::choose;
 use text::{arguments, numbers, words};
 
 // The array but for its three lent buffers, of which it says how many entries are its own.
-#[derive(Clone, Copy)]
+#[derive(Clone, Copy, PartialEq, Eq)]
 pub struct Rack {
     pub width: u32,
     pub words: usize,
@@ -57,37 +57,7 @@ fn ended(rack: Rack, outcome: Outcome) -> Turn
     Turn { rack, outcome }
 }
 
-fn with_registers(rack: Rack, registers: Registers) -> Rack
-    ensures { result ≡ commands.with_registers rack registers }
-{
-    Rack {
-        width: rack.width,
-        words: rack.words,
-        registers,
-    }
-}
-
 // ---- what the host does to its array
-
-fn clear_plane(plane: &mut [u64])
-    ensures { plane.new ≡ replicate (length plane.old) 0 }
-{
-    let mut i: usize = 0;
-    while i < plane.len() {
-        plane[i] = 0;
-        i += 1;
-    }
-}
-
-fn clear_selectors(selectors: &mut [u8])
-    ensures { selectors.new ≡ replicate (length selectors.old) 0 }
-{
-    let mut i: usize = 0;
-    while i < selectors.len() {
-        selectors[i] = 0;
-        i += 1;
-    }
-}
 
 // cells3 N n
 fn make(rack: Rack, rest: &[u8], ones: &mut [u64], xs: &mut [u64], selectors: &mut [u8]) -> Turn
@@ -96,15 +66,14 @@ fn make(rack: Rack, rest: &[u8], ones: &mut [u64], xs: &mut [u64], selectors: &m
     ensures xs_after { xs.new ≡ commands.cleared (fits "bn" (words_of rest.now)) xs.old }
     ensures selectors_after { selectors.new ≡ commands.cleared (fits "bn" (words_of rest.now)) selectors.old }
 {
-    let row = arguments::read(rest, b"bn");
-    if !row.right {
+    let Some(row) = arguments::read(rest, b"bn") else {
         return ended(rack, Outcome::BadLine);
-    }
-    clear_plane(ones);
-    clear_plane(xs);
-    clear_selectors(selectors);
-    let width = numbers::byte(row.values[0]);
-    ended(fresh(width as u32, row.values[1] as usize), Outcome::Fine)
+    };
+    ones.fill(0);
+    xs.fill(0);
+    selectors.fill(0);
+    let made = fresh(u32::from(numbers::byte(row[0])), row[1] as usize);
+    ended(made, Outcome::Fine)
 }
 
 // cell3 I ONES XS
@@ -113,19 +82,15 @@ fn write_cells(rest: &[u8], ones: &mut [u64], xs: &mut [u64]) -> Outcome
     ensures ones_after { ones.new ≡ commands.cells_written 1 (words_of rest.now) ones.old xs.old ones.old }
     ensures xs_after { xs.new ≡ commands.cells_written 2 (words_of rest.now) ones.old xs.old xs.old }
 {
-    let row = arguments::read(rest, b"axx");
-    if !row.right {
+    let Some(row) = arguments::read(rest, b"axx") else {
+        return Outcome::BadLine;
+    };
+    let i = row[0] as usize;
+    if ones.len() <= i || xs.len() <= i {
         return Outcome::BadLine;
     }
-    let i = row.values[0] as usize;
-    if ones.len() <= i {
-        return Outcome::BadLine;
-    }
-    if xs.len() <= i {
-        return Outcome::BadLine;
-    }
-    ones[i] = row.values[1];
-    xs[i] = row.values[2];
+    ones[i] = row[1];
+    xs[i] = row[2];
     Outcome::Fine
 }
 
@@ -134,15 +99,14 @@ fn write_selectors(rest: &[u8], selectors: &mut [u8]) -> Outcome
     ensures value { result ≡ commands.selectors_outcome (words_of rest.now) selectors.old }
     ensures selectors_after { selectors.new ≡ commands.selectors_written (words_of rest.now) selectors.old }
 {
-    let row = arguments::read(rest, b"ah");
-    if !row.right {
+    let Some(row) = arguments::read(rest, b"ah") else {
         return Outcome::BadLine;
-    }
-    let i = row.values[0] as usize;
+    };
+    let i = row[0] as usize;
     if selectors.len() <= i {
         return Outcome::BadLine;
     }
-    selectors[i] = numbers::byte(row.values[1]);
+    selectors[i] = numbers::byte(row[1]);
     Outcome::Fine
 }
 
@@ -150,19 +114,15 @@ fn write_selectors(rest: &[u8], selectors: &mut [u8]) -> Outcome
 fn load(rack: Rack, rest: &[u8]) -> Turn
     ensures { result ≡ commands.loaded rack (words_of rest.now) }
 {
-    let register = choose(rest, 0, b"r1 r2 m", 3);
-    if !register.right {
+    let Some(register) = choose(rest, 0, b"r1 r2 m", 3) else {
         return ended(rack, Outcome::BadLine);
-    }
-    let to = register.to;
-    let end = rest.len();
-    let row = arguments::read(&rest[to..end], b"x");
-    if !row.right {
+    };
+    let Some(row) = arguments::read(&rest[register.to..], b"x") else {
         return ended(rack, Outcome::BadLine);
-    }
+    };
     let sink = array_lines::sink_at(register.place);
-    let loaded = array::load(rack.registers, sink, row.values[0]);
-    ended(with_registers(rack, loaded), Outcome::Fine)
+    let registers = array::load(rack.registers, sink, row[0]);
+    ended(Rack { registers, ..rack }, Outcome::Fine)
 }
 
 // list3
@@ -178,22 +138,30 @@ fn list(rest: &[u8]) -> Outcome
 
 // ---- the three operations
 
-fn operate(rack: Rack, asked: Asked, ones: &mut [u64], xs: &mut [u64], selectors: &mut [u8]) -> Turn
+fn operate(
+    rack: Rack,
+    asked: Option<Operation>,
+    ones: &mut [u64],
+    xs: &mut [u64],
+    selectors: &mut [u8],
+) -> Turn
     ensures value { result ≡ commands.operate_turn rack asked (array rack.width ones.old xs.old selectors.old) }
     ensures ones_after { ones.new ≡ (commands.operate_after rack asked (array rack.width ones.old xs.old selectors.old)).ones }
     ensures xs_after { xs.new ≡ (commands.operate_after rack asked (array rack.width ones.old xs.old selectors.old)).xs }
     ensures selectors_after { selectors.new ≡ (commands.operate_after rack asked (array rack.width ones.old xs.old selectors.old)).selectors }
 {
-    let Asked::Is(operation) = asked else {
+    let Some(operation) = asked else {
         return ended(rack, Outcome::BadLine);
     };
-    let registers = rack.registers;
-    match array_wide::operate(ones, xs, selectors, rack.width, registers, operation) {
-        Answer::Done {
-            registers: loaded,
-            count,
-        } => ended(with_registers(rack, loaded), Outcome::Counted(count)),
-        Answer::Refused(why) => ended(rack, Outcome::Refused(why)),
+    match array_wide::operate(ones, xs, selectors, rack.width, rack.registers, operation) {
+        Ok(done) => ended(
+            Rack {
+                registers: done.registers,
+                ..rack
+            },
+            Outcome::Counted(done.count),
+        ),
+        Err(why) => ended(rack, Outcome::Refused(why)),
     }
 }
 
@@ -242,22 +210,16 @@ fn by_name(
         return make(rack, rest, ones, xs, selectors);
     }
     let n = rack.words;
-    if ones.len() < n {
-        return ended(rack, Outcome::BadLine);
-    }
-    if xs.len() < n {
-        return ended(rack, Outcome::BadLine);
-    }
-    if selectors.len() < n {
+    if ones.len() < n || xs.len() < n || selectors.len() < n {
         return ended(rack, Outcome::BadLine);
     }
     on_own(
         rack,
         name,
         rest,
-        &mut ones[0..n],
-        &mut xs[0..n],
-        &mut selectors[0..n],
+        &mut ones[..n],
+        &mut xs[..n],
+        &mut selectors[..n],
     )
 }
 
@@ -269,11 +231,15 @@ pub fn obey(rack: Rack, line: &[u8], ones: &mut [u64], xs: &mut [u64], selectors
     ensures selectors_after { selectors.new ≡ (obeying.obeyed (obeying.bench rack ones.old xs.old selectors.old) (words_of line.now)).selectors }
 {
     let word = words::next(line, 0);
-    let from = word.from;
-    let to = word.to;
-    if from == to {
+    if word.from == word.to {
         return ended(rack, Outcome::BadLine);
     }
-    let end = line.len();
-    by_name(rack, &line[from..to], &line[to..end], ones, xs, selectors)
+    by_name(
+        rack,
+        &line[word.from..word.to],
+        &line[word.to..],
+        ones,
+        xs,
+        selectors,
+    )
 }

@@ -1,11 +1,10 @@
 use native.Mathlib.Omega.{arith}
-use borrow.Author.Rules.{rules}
 use Rattle.array_console.specs.Obeying.{bench}
 use Rattle.array_console.proofs.Arms.{obey_none, obey_name}
 use Rattle.array_console.proofs.obey.Goals as goal
 
-pub returns-then-from-to : goal.returns-then-from-to
-returns-then-from-to c = let a = c.args in let n = c.next-word in let q = obey_none (bench a.rack a.ones.now a.xs.now a.selectors.now) a.line.now n.result n.ensures.value (omega arith) c.ended.ensures in record {
+pub returns-then-word : goal.returns-then-word
+returns-then-word c = let a = c.args in let n = c.next-word in let q = obey_none (bench a.rack a.ones.now a.xs.now a.selectors.now) a.line.now n.result n.ensures.value (omega arith) c.ended.ensures in record {
   value = q.0;
   ones_after = q.1.0;
   xs_after = q.1.1.0;

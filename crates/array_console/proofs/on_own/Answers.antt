@@ -3,7 +3,7 @@ use mathlib.Core.Path.{refl, ◌∙◌}
 use borrow.Author.Rules.{rules}
 use Rattle.text.specs.Words.{words_of}
 use Rattle.array_console.specs.Obeying.{bench}
-use Rattle.array_console.proofs.Arms.{asks, none_of_seven, arm, no_arm}
+use Rattle.array_console.proofs.Arms.{asks, arm, no_arm}
 use Rattle.array_console.proofs.on_own.Goals as goal
 
 pub returns-in-0 : goal.returns-in-0
@@ -63,7 +63,7 @@ returns-in-6 c = let a = c.args in let w = c.which in let q = arm (bench a.rack 
 }
 
 pub returns-in_default : goal.returns-in_default
-returns-in_default c = let a = c.args in let w = c.which in let q = no_arm (bench a.rack a.ones.now a.xs.now a.selectors.now) a.name.now (words_of a.rest.now) w.ensures (none_of_seven w.result c.in_default.in_default-own.rest) c.ended-in_default.ensures in record {
+returns-in_default c = let a = c.args in let w = c.which in let q = no_arm (bench a.rack a.ones.now a.xs.now a.selectors.now) a.name.now (words_of a.rest.now) w.ensures (search rules) c.ended-in_default.ensures in record {
   value = q.0;
   ones_after = q.1.0;
   xs_after = q.1.1.0;
