@@ -53,7 +53,6 @@ module _ (n : ℕ) (p : Panel) (w : ℕ) where
 
 -- after the syllables with tops below bit i: x is their sum
 pub record Summed (n : ℕ) (p : Panel) (w x i : ℕ) : Type 0 where
-  pub within : i ≤ n
   pub is : x + sums p w (tops n p.sdr i (n - i)) ≡ added n p w
   pub small : i < n → x < 2 ^ bottom p.sdr i
 
@@ -62,7 +61,7 @@ module _ (n : ℕ) (p : Panel) (w : ℕ) where
   unfolding added
   summed_start =
       let e : n - 0 ≡ n = omega arith in
-      record { within = omega arith; is = omega (arith, ap (λ (m : ℕ). sums p w (tops n p.sdr 0 m)) e); small = λ h. pow_pos (bottom p.sdr 0) }
+      record { is = omega (arith, ap (λ (m : ℕ). sums p w (tops n p.sdr 0 m)) e); small = λ h. pow_pos (bottom p.sdr 0) }
 
   module _ (x i : ℕ) (h : Summed n p w x i) (l : i < n) where
     pub summed_room : n ≤ 64 → (y : ℕ) → y ≡ kept_at n p w i → x + y < 2 ^ 64
@@ -83,7 +82,6 @@ module _ (n : ℕ) (p : Panel) (w : ℕ) where
     summed_step y e =
         let m : n - i ≡ suc (n - suc i) = omega arith in
         rw (add-one i, e) (record {
-          within = omega arith;
           is = omega (arith, h.is, ap (λ (k : ℕ). sums p w (tops n p.sdr i k)) m, sums_next n p w i (n - suc i));
           small = small_next;
         })
@@ -94,13 +92,15 @@ module _ (n : ℕ) (p : Panel) (w : ℕ) where
 
 -- ---- one syllable, at its place
 
-pub kept_on : (n : ℕ) (p : Panel) (w i low r : ℕ) → is_top n p.sdr i ≡ true → low ≡ bottom p.sdr i → i < 64
-    → r ≡ kept p w (record { low = low; width = i + 1 - low }) → r * 2 ^ low % 2 ^ 64 ≡ kept_at n p w i
+pub kept_on : (n : ℕ) (p : Panel) (w i r : ℕ) (y : Syllable) → is_top n p.sdr i ≡ true → i < 64 → y ≡ down_from p.sdr i → r ≡ kept p w y
+    → r * 2 ^ y.low % 2 ^ 64 ≡ kept_at n p w i
 unfolding kept_at
-kept_on n p w i low r h e g q =
-    let k : kept p w (record { low = low; width = i + 1 - low }) < 2 ^ (i + 1 - low) = kept_lt p w (record { low = low; width = i + 1 - low }) in
-    shl_exact (i + 1 - low) low 64 (rw q k) (omega (arith, bottom_le p.sdr i))
-    ∙ rw (q, e, h, add-one i) refl
+kept_on n p w i r y h g e q =
+    let b = bottom p.sdr i in
+    let k : r ≡ kept p w (down_from p.sdr i) = q ∙ ap (kept p w) e in
+    ap (λ (z : Syllable). r * 2 ^ z.low % 2 ^ 64) e
+    ∙ shl_exact (suc i - b) b 64 (rw k (kept_lt p w (down_from p.sdr i))) (omega (arith, bottom_le p.sdr i))
+    ∙ rw (k, h) refl
 
 pub kept_off : (n : ℕ) (p : Panel) (w i : ℕ) → is_top n p.sdr i ≡ false → 0 ≡ kept_at n p w i
 unfolding kept_at

@@ -5,7 +5,7 @@ ghost use Rattle.machine.specs.Pulse.{written, addend, added, change};
 ghost use Rattle.chains.specs.Walks.{syllable, kept, kept_at};
 
 use crate::bits::{at_place, bit_of, merge};
-use crate::search::{bottom_of, is_top};
+use crate::syllables::{Syllable, down_from, is_top};
 use machine::Panel;
 
 // COMP's bit under a one of MOR, 0 elsewhere.
@@ -21,19 +21,16 @@ fn addend_at(panel: Panel, i: u32) -> u64
 }
 
 // A syllable's cells from bottom to top: each keeps the sum's low bit and passes its carry on.
-fn add_cells(panel: Panel, w: u64, low: u32, width: u32) -> u64
-    requires { low + width ≤ 64 }
-    ensures { (result ≡ kept panel w (syllable low width)) × (result < 2 ^ width) }
+fn add_cells(panel: Panel, w: u64, y: Syllable) -> u64
+    ensures { (result ≡ kept panel w (syllable y.low y.width)) × (result < 2 ^ y.width) }
 {
     let mut sum: u64 = 0;
     let mut carry: u64 = 0;
-    let mut j: u32 = 0;
-    while j < width {
-        let i = low + j;
+    for j in 0..y.width {
+        let i = y.low + j;
         let t = bit_of(w, i) + addend_at(panel, i) + carry;
         sum += at_place(t % 2, j);
         carry = t / 2;
-        j += 1;
     }
     sum
 }
@@ -44,8 +41,8 @@ fn add_at(n: u32, panel: Panel, w: u64, i: u32) -> u64
     ensures { result ≡ kept_at n panel w i }
 {
     if is_top(n, panel.sdr, i) {
-        let low = bottom_of(panel.sdr, i);
-        add_cells(panel, w, low, i + 1 - low) << low
+        let y = down_from(panel.sdr, i);
+        add_cells(panel, w, y) << y.low
     } else {
         0
     }
@@ -56,10 +53,8 @@ fn add_word(n: u32, panel: Panel, w: u64) -> u64
     ensures { result ≡ added n panel w }
 {
     let mut word: u64 = 0;
-    let mut i: u32 = 0;
-    while i < n {
+    for i in 0..n {
         word += add_at(n, panel, w, i);
-        i += 1;
     }
     word
 }
@@ -71,14 +66,11 @@ pub fn change_word(n: u32, panel: Panel, write: bool, add: bool, w: u64) -> u64
 {
     let wrote = merge(n, panel.mor, panel.comp, w);
     let sum = add_word(n, panel, w);
-    if write {
-        if add {
-            // where the write asks to flip the bit is the write's, and elsewhere it flips if the add asks
-            merge(n, wrote ^ w, wrote, sum)
-        } else {
-            wrote
-        }
-    } else {
-        if add { sum } else { w }
+    match (write, add) {
+        (false, false) => w,
+        (false, true) => sum,
+        (true, false) => wrote,
+        // where the write asks to flip the bit is the write's, and elsewhere it flips if the add asks
+        (true, true) => merge(n, wrote ^ w, wrote, sum),
     }
 }

@@ -35,10 +35,8 @@ pub fn merge(n: u32, mask: u64, x: u64, y: u64) -> u64
     ensures { (result ≡ number n (under mask (bit x) (bit y))) × (result < 2 ^ n) }
 {
     let mut word: u64 = 0;
-    let mut i: u32 = 0;
-    while i < n {
+    for i in 0..n {
         word += at_place(merged_bit(mask, x, y, i), i);
-        i += 1;
     }
     word
 }

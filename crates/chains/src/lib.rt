@@ -5,3 +5,4 @@
 pub mod add;
 pub mod bits;
 pub mod search;
+pub mod syllables;

@@ -2,37 +2,14 @@
 ghost use Rattle.std.specs.Prelude.{◌≡◌, ◌&&◌, ◌||◌, false, eqb, suc, ◌+◌, ◌≤◌, ◌<◌};
 ghost use Rattle.laws.specs.Bits.{bit, every, pick};
 ghost use Rattle.laws.specs.Lists.{all};
-ghost use Rattle.machine.specs.Machine.{is_top, bottom, down_from, syllables};
-ghost use Rattle.machine.specs.Search.{code_at, each_code, or_equal, or_exact, or_larger, or_smaller, one_code, or_unset, or_set, over_compared, one_setting, compared_only, unmixed};
+ghost use Rattle.machine.specs.Machine.{syllables};
+ghost use Rattle.machine.specs.Search.{code_at, each_code, each_bit, or_equal, one_code, over_compared, one_setting, compared_only, unmixed};
 ghost use Rattle.machine.specs.Cells.{cell, status_of, wants, accepted, cells_match};
-ghost use Rattle.chains.specs.Walks.{syllable, here};
+ghost use Rattle.chains.specs.Walks.{syllable, here, or_code, or_setting};
 
 use crate::bits::bit_of;
+use crate::syllables::{Syllable, down_from, is_top};
 use machine::{Code, Panel, Response, Status, is_selected};
-
-// ---- the syllables
-
-pub(crate) fn is_top(n: u32, sdr: u64, i: u32) -> bool
-    requires { i < 64 }
-    ensures { result ≡ is_top n sdr i }
-{
-    (bit_of(sdr, i) == 1) | (i + 1 == n)
-}
-
-// The lowest bit of the syllable whose top bit is bit i.
-pub fn bottom_of(sdr: u64, i: u32) -> u32
-    requires { i < 64 }
-    ensures { (result ≡ bottom sdr i) × (result ≤ i) }
-{
-    let mut low = i;
-    while 0 < low {
-        if bit_of(sdr, low - 1) == 1 {
-            return low;
-        }
-        low -= 1;
-    }
-    low
-}
 
 // ---- codes and SC3
 
@@ -40,20 +17,11 @@ pub fn code_at(panel: Panel, i: u32) -> Code
     requires { i < 64 }
     ensures { result ≡ code_at panel i }
 {
-    let first = bit_of(panel.sc1, i);
-    let second = bit_of(panel.sc2, i);
-    if first == 0 {
-        if second == 0 {
-            Code::DontCare
-        } else {
-            Code::Exact
-        }
-    } else {
-        if second == 0 {
-            Code::Larger
-        } else {
-            Code::Smaller
-        }
+    match (bit_of(panel.sc1, i), bit_of(panel.sc2, i)) {
+        (0, 0) => Code::DontCare,
+        (0, _) => Code::Exact,
+        (_, 0) => Code::Larger,
+        _ => Code::Smaller,
     }
 }
 
@@ -65,116 +33,69 @@ fn or_equal_at(panel: Panel, i: u32) -> bool
     bit_of(panel.sc3, i) == 1
 }
 
-fn or_exact(code: Code) -> bool
-    ensures { result ≡ or_exact code }
+fn or_code(code: Code, wanted: Code) -> bool
+    ensures { result ≡ or_code wanted code }
 {
-    match code {
-        Code::DontCare => true,
-        Code::Exact => true,
-        Code::Larger => false,
-        Code::Smaller => false,
-    }
+    (code == Code::DontCare) | (code == wanted)
 }
 
-fn or_larger(code: Code) -> bool
-    ensures { result ≡ or_larger code }
+// Whether the bits of a syllable that are cared for carry this code.
+fn has_code(panel: Panel, y: Syllable, wanted: Code) -> bool
+    ensures { result ≡ each_code panel (syllable y.low y.width) (or_code wanted) }
 {
-    match code {
-        Code::DontCare => true,
-        Code::Exact => false,
-        Code::Larger => true,
-        Code::Smaller => false,
-    }
-}
-
-fn or_smaller(code: Code) -> bool
-    ensures { result ≡ or_smaller code }
-{
-    match code {
-        Code::DontCare => true,
-        Code::Exact => false,
-        Code::Larger => false,
-        Code::Smaller => true,
-    }
+    (y.low..y.low + y.width).all(|i| or_code(code_at(panel, i), wanted))
 }
 
 // Whether the bits of a syllable that are cared for carry one code.
-fn has_one_code(panel: Panel, low: u32, width: u32) -> bool
-    requires { low + width ≤ 64 }
-    ensures { result ≡ one_code panel (syllable low width) }
+fn has_one_code(panel: Panel, y: Syllable) -> bool
+    ensures { result ≡ one_code panel (syllable y.low y.width) }
 {
-    let mut exact = true;
-    let mut larger = true;
-    let mut smaller = true;
-    let mut j: u32 = 0;
-    while j < width {
-        let code = code_at(panel, low + j);
-        exact = or_exact(code) & exact;
-        larger = or_larger(code) & larger;
-        smaller = or_smaller(code) & smaller;
-        j += 1;
-    }
-    exact | (larger | smaller)
+    has_code(panel, y, Code::Exact)
+        | (has_code(panel, y, Code::Larger) | has_code(panel, y, Code::Smaller))
 }
 
-fn or_unset(code: Code, equal: bool) -> bool
-    ensures { result ≡ or_unset code equal }
+fn or_setting(code: Code, equal: bool, wanted: bool) -> bool
+    ensures { result ≡ or_setting wanted code equal }
 {
-    match code {
-        Code::DontCare => true,
-        Code::Exact => !equal,
-        Code::Larger => !equal,
-        Code::Smaller => !equal,
-    }
+    (code == Code::DontCare) | (equal == wanted)
 }
 
-fn or_set(code: Code, equal: bool) -> bool
-    ensures { result ≡ or_set code equal }
+// Whether the bits of a syllable that are cared for have this setting of SC3.
+fn has_setting(panel: Panel, y: Syllable, wanted: bool) -> bool
+    ensures { result ≡ each_bit panel (syllable y.low y.width) (or_setting wanted) }
 {
-    match code {
-        Code::DontCare => true,
-        Code::Exact => equal,
-        Code::Larger => equal,
-        Code::Smaller => equal,
-    }
+    (y.low..y.low + y.width).all(|i| or_setting(code_at(panel, i), or_equal_at(panel, i), wanted))
 }
 
 fn over_compared(code: Code, one: bool) -> bool
     ensures { result ≡ over_compared code one }
 {
     match code {
-        Code::DontCare => !one,
-        Code::Exact => !one,
-        Code::Larger => true,
-        Code::Smaller => true,
+        Code::DontCare | Code::Exact => !one,
+        Code::Larger | Code::Smaller => true,
     }
+}
+
+// Whether SC3 has no one but over a larger or smaller bit of a syllable.
+fn is_compared_only(panel: Panel, y: Syllable) -> bool
+    ensures { result ≡ compared_only panel (syllable y.low y.width) }
+{
+    (y.low..y.low + y.width).all(|i| over_compared(code_at(panel, i), or_equal_at(panel, i)))
 }
 
 // Whether the bits of a syllable that are cared for have one setting of SC3, and no other bit has a one of it.
-fn has_one_setting(panel: Panel, low: u32, width: u32) -> bool
-    requires { low + width ≤ 64 }
-    ensures { result ≡ (one_setting panel (syllable low width) && compared_only panel (syllable low width)) }
+fn has_one_setting(panel: Panel, y: Syllable) -> bool
+    ensures { result ≡ (one_setting panel (syllable y.low y.width) && compared_only panel (syllable y.low y.width)) }
 {
-    let mut unset = true;
-    let mut set = true;
-    let mut compared = true;
-    let mut j: u32 = 0;
-    while j < width {
-        let code = code_at(panel, low + j);
-        let equal = or_equal_at(panel, low + j);
-        unset = or_unset(code, equal) & unset;
-        set = or_set(code, equal) & set;
-        compared = over_compared(code, equal) & compared;
-        j += 1;
-    }
-    (unset | set) & compared
+    let unset = has_setting(panel, y, false);
+    let set = has_setting(panel, y, true);
+    (unset | set) & is_compared_only(panel, y)
 }
 
-fn is_unmixed(panel: Panel, low: u32, width: u32) -> bool
-    requires { low + width ≤ 64 }
-    ensures { result ≡ unmixed panel (syllable low width) }
+fn is_unmixed(panel: Panel, y: Syllable) -> bool
+    ensures { result ≡ unmixed panel (syllable y.low y.width) }
 {
-    has_one_code(panel, low, width) & has_one_setting(panel, low, width)
+    has_one_code(panel, y) & has_one_setting(panel, y)
 }
 
 // At bit i: the syllable that it starts, or true where it starts none.
@@ -182,25 +103,14 @@ fn unmixed_at(n: u32, panel: Panel, i: u32) -> bool
     requires { i < 64 }
     ensures { result ≡ here (unmixed panel) n panel.sdr i }
 {
-    if is_top(n, panel.sdr, i) {
-        let low = bottom_of(panel.sdr, i);
-        is_unmixed(panel, low, i + 1 - low)
-    } else {
-        true
-    }
+    !is_top(n, panel.sdr, i) || is_unmixed(panel, down_from(panel.sdr, i))
 }
 
 pub fn all_unmixed(n: u32, panel: Panel) -> bool
     requires { n ≤ 64 }
     ensures { result ≡ all (unmixed panel) (syllables n panel.sdr) }
 {
-    let mut so_far = true;
-    let mut i: u32 = 0;
-    while i < n {
-        so_far = so_far & unmixed_at(n, panel, i);
-        i += 1;
-    }
-    so_far
+    (0..n).all(|i| unmixed_at(n, panel, i))
 }
 
 // ---- the cells
@@ -209,10 +119,11 @@ pub fn all_unmixed(n: u32, panel: Panel) -> bool
 fn settle(w: u64, c: u64, more: Status, less: Status) -> Status
     ensures { result ≡ pick (eqb w 0) (pick (eqb c 0) Status.Equal less) (pick (eqb c 0) more Status.Equal) }
 {
-    if w == 0 {
-        if c == 0 { Status::Equal } else { less }
-    } else {
-        if c == 0 { more } else { Status::Equal }
+    match (w, c) {
+        (0, 0) => Status::Equal,
+        (0, _) => less,
+        (_, 0) => more,
+        _ => Status::Equal,
     }
 }
 
@@ -233,21 +144,17 @@ pub fn pass_on(code: Code, w: u64, c: u64, above: Status) -> Status
 {
     match above {
         Status::Equal => settle_by(code, w, c),
-        Status::For => Status::For,
-        Status::Against => Status::Against,
+        Status::For | Status::Against => above,
     }
 }
 
 // The status at the bottom of a syllable, passed on from its top bit.
-fn status_of(panel: Panel, w: u64, low: u32, width: u32) -> Status
-    requires { low + width ≤ 64 }
-    ensures { result ≡ status_of panel w (syllable low width) }
+fn status_of(panel: Panel, w: u64, y: Syllable) -> Status
+    ensures { result ≡ status_of panel w (syllable y.low y.width) }
 {
     let mut status = Status::Equal;
-    let mut j = width;
-    while 0 < j {
-        j -= 1;
-        let i = low + j;
+    for j in (0..y.width).rev() {
+        let i = y.low + j;
         status = pass_on(
             code_at(panel, i),
             bit_of(w, i),
@@ -261,43 +168,23 @@ fn status_of(panel: Panel, w: u64, low: u32, width: u32) -> Status
 fn is_wanted(code: Code, equal: bool, status: Status) -> bool
     ensures { result ≡ wants code equal status }
 {
-    match status {
-        Status::Equal => match code {
-            Code::DontCare => true,
-            Code::Exact => true,
-            Code::Larger => equal,
-            Code::Smaller => equal,
-        },
-        Status::For => match code {
-            Code::DontCare => true,
-            Code::Exact => false,
-            Code::Larger => true,
-            Code::Smaller => true,
-        },
-        Status::Against => match code {
-            Code::DontCare => true,
-            Code::Exact => false,
-            Code::Larger => false,
-            Code::Smaller => false,
+    match code {
+        Code::DontCare => true,
+        Code::Exact => status == Status::Equal,
+        Code::Larger | Code::Smaller => match status {
+            Status::Equal => equal,
+            Status::For => true,
+            Status::Against => false,
         },
     }
 }
 
 // Whether every cell of a syllable is content with the status at its bottom.
-fn is_accepted(panel: Panel, w: u64, low: u32, width: u32) -> bool
-    requires { low + width ≤ 64 }
-    ensures { result ≡ accepted panel w (syllable low width) }
+fn is_accepted(panel: Panel, w: u64, y: Syllable) -> bool
+    ensures { result ≡ accepted panel w (syllable y.low y.width) }
 {
-    let status = status_of(panel, w, low, width);
-    let mut content = true;
-    let mut j: u32 = 0;
-    while j < width {
-        let code = code_at(panel, low + j);
-        let equal = or_equal_at(panel, low + j);
-        content = is_wanted(code, equal, status) & content;
-        j += 1;
-    }
-    content
+    let status = status_of(panel, w, y);
+    (y.low..y.low + y.width).all(|i| is_wanted(code_at(panel, i), or_equal_at(panel, i), status))
 }
 
 // At bit i: the syllable that it starts, or true where it starts none.
@@ -305,25 +192,14 @@ pub fn accepted_at(n: u32, panel: Panel, w: u64, i: u32) -> bool
     requires { i < 64 }
     ensures { result ≡ here (accepted panel w) n panel.sdr i }
 {
-    if is_top(n, panel.sdr, i) {
-        let low = bottom_of(panel.sdr, i);
-        is_accepted(panel, w, low, i + 1 - low)
-    } else {
-        true
-    }
+    !is_top(n, panel.sdr, i) || is_accepted(panel, w, down_from(panel.sdr, i))
 }
 
 fn all_accepted(n: u32, panel: Panel, w: u64) -> bool
     requires { n ≤ 64 }
     ensures { result ≡ all (accepted panel w) (syllables n panel.sdr) }
 {
-    let mut so_far = true;
-    let mut i: u32 = 0;
-    while i < n {
-        so_far = so_far & accepted_at(n, panel, w, i);
-        i += 1;
-    }
-    so_far
+    (0..n).all(|i| accepted_at(n, panel, w, i))
 }
 
 pub fn is_match(n: u32, panel: Panel, w: u64, r: Response) -> bool

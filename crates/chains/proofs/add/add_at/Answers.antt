@@ -1,4 +1,5 @@
 use mathlib.Core.Path.{sym, ◌∙◌}
+use Rattle.chains.specs.Walks.{syllable}
 use Rattle.chains.proofs.Adding as adding
 use borrow.Author.Rules.{rules}
 use Rattle.chains.proofs.add.add_at.Goals as goal
@@ -6,7 +7,8 @@ use Rattle.chains.proofs.add.add_at.Goals as goal
 pub returns-then-is_top : goal.returns-then-is_top
 returns-then-is_top c =
     let a = c.args in
-    adding.kept_on a.n a.panel a.w a.i c.bottom_of-low.result c.add_cells.result (sym c.is_top.ensures ∙ c.if-is_top.true) c.bottom_of-low.ensures.0 (search rules) c.add_cells.ensures.0
+    let y = c.down_from-y in
+    adding.kept_on a.n a.panel a.w a.i c.add_cells.result (syllable y.result.low y.result.width) (sym c.is_top.ensures ∙ c.if-is_top.true) (search rules) y.ensures.0 c.add_cells.ensures.0
 
 pub returns-else-is_top : goal.returns-else-is_top
 returns-else-is_top c = adding.kept_off _ _ _ _ (sym c.is_top.ensures ∙ c.if-is_top.false)

@@ -1,4 +1,3 @@
-use Prim.Native.Nat.{◌-◌}
 use Rattle.chains.proofs.Adding as adding
 use borrow.Author.Rules.{rules}
 use Rattle.chains.proofs.add.add_word.Goals as goal

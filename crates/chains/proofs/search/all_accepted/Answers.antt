@@ -1,16 +1,16 @@
-use Prim.Native.Nat.{◌-◌}
-use Rattle.chains.proofs.Steps as steps
-use Rattle.machine.specs.Cells.{accepted}
+use mathlib.Core.Path.{◌≡◌, refl}
+use mathlib.Core.Bool.{true, false}
+use native.Mathlib.Omega.{arith}
 use borrow.Author.Rules.{rules}
+use Rattle.std.proofs.lemmas.Iterator.{cases_from_all, YieldsList-from_range}
+use Rattle.machine.specs.Cells.{accepted}
+use Rattle.chains.specs.Walks.{here}
+use Rattle.chains.proofs.Steps.{all_here}
 use Rattle.chains.proofs.search.all_accepted.Goals as goal
 
-pub loop-i-init : goal.loop-i-init
-loop-i-init c = steps.among_start _ _ _
-
-pub loop-i-preserved : goal.loop-i-preserved
-loop-i-preserved c =
-    let l = c.loop-i in let a = c.args in
-    steps.among_step (accepted a.panel a.w) a.n a.panel.sdr l.so_far c.accepted_at-so_far.result l.i l.invariant (search rules) c.accepted_at-so_far.ensures
-
 pub returns : goal.returns
-returns c = steps.among_done _ _ _ _ c.loop-i.i c.loop-i.invariant (search rules)
+returns c =
+    let a = c.args in
+    all_here (accepted a.panel a.w) a.n a.panel.sdr c.all.result
+    (cases_from_all _ _ _ (λ i. here (accepted a.panel a.w) a.n a.panel.sdr i ≡ true) (λ i. here (accepted a.panel a.w) a.n a.panel.sdr i ≡ false) c.all.ensures.ran
+    (YieldsList-from_range 0 a.n a.n refl (omega arith)) (λ x q k. search rules) (λ x q k. search rules))

@@ -1,5 +1,4 @@
 use Rattle.machine.specs.Cells.{cells_match}
-use borrow.Author.Rules.{rules}
 use Rattle.chains.proofs.search.is_match.Goals as goal
 
 pub returns : goal.returns

@@ -1,12 +1,15 @@
-use mathlib.Core.Path.{sym, ◌∙◌}
-use Rattle.chains.proofs.Steps as steps
-use borrow.Author.Rules.{rules}
+use Rattle.machine.specs.Search.{unmixed}
+use Rattle.chains.specs.Walks.{syllable}
+use Rattle.chains.proofs.Steps.{here_on, here_off}
 use Rattle.chains.proofs.search.unmixed_at.Goals as goal
 
-pub returns-then-is_top : goal.returns-then-is_top
-returns-then-is_top c =
+pub returns-then-not-is_top : goal.returns-then-not-is_top
+returns-then-not-is_top c =
     let a = c.args in
-    steps.here_on _ a.n a.panel.sdr a.i c.bottom_of-low.result c.is_unmixed.result (sym c.is_top.ensures ∙ c.if-is_top.true) c.bottom_of-low.ensures.0 c.is_unmixed.ensures
+    here_off (unmixed a.panel) a.n a.panel.sdr a.i c.is_top.result c.is_top.ensures c.if-not-is_top.true
 
-pub returns-else-is_top : goal.returns-else-is_top
-returns-else-is_top c = steps.here_off _ _ _ _ (sym c.is_top.ensures ∙ c.if-is_top.false)
+pub returns-else-not-is_top : goal.returns-else-not-is_top
+returns-else-not-is_top c =
+    let a = c.args in
+    let y = c.down_from in
+    here_on (unmixed a.panel) a.n a.panel.sdr a.i (syllable y.result.low y.result.width) c.is_unmixed.result c.is_top.result c.is_top.ensures c.if-not-is_top.false y.ensures.0 c.is_unmixed.ensures
