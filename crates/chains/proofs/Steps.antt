@@ -2,11 +2,13 @@
 use Prim.Native.Nat.{ℕ, suc, ◌+◌, ◌*◌, ◌^◌, ◌≤◌, ◌<◌}
 use mathlib.Core.Path.{◌≡◌, refl, sym, ap, ◌∙◌}
 use mathlib.Core.Bool.{Bool, true, false, not}
-use native.Mathlib.Nat.{pow-suc, mul-le-mul_right}
+use native.Mathlib.Nat.{pow-suc, mul-le-mul_right, le_antisymm}
 use native.Mathlib.Numerals.{add-one}
 use native.Mathlib.Omega.{arith}
+use lib.Dec.{eqb}
 use lib.ListN.{length}
 use lib.Pow.{pow_mono}
+use borrow.Author.Tests.{ne_eqb}
 use Rattle.std.specs.Bool.{MatchBool}
 use Rattle.std.specs.List.{range_with_len, AllWithin, HoldsAt}
 use Rattle.std.proofs.lemmas.List.FromFn.{length-range_with_len, get_or-range_with_len}
@@ -17,34 +19,44 @@ use Rattle.machine.specs.Machine.{Syllable, is_top, down_from, syllables}
 use Rattle.machine.proofs.Machine.{all_up, all_down}
 use Rattle.chains.specs.Walks.{here}
 
+-- ---- bits
+
+pub taken_one : {A : Type 0} (b : ℕ) (x y : A) → b ≡ 1 → x ≡ pick (eqb b 1) x y
+taken_one b x y h = rw h
+
+pub left_one : {A : Type 0} (b : ℕ) (x y : A) → (b ≡ 1 → ⊥) → y ≡ pick (eqb b 1) x y
+left_one b x y h = rw (ne_eqb b 1 h)
+
 -- ---- a number built from its lowest bit up
 
-pub record Built (f : ℕ → ℕ) (x i : ℕ) : Type 0 where
+pub record Built (n : ℕ) (f : ℕ → ℕ) (x i : ℕ) : Type 0 where
+  pub within : i ≤ n
   pub is : x ≡ number i f
   pub small : x < 2 ^ i
 
-module _ (f : ℕ → ℕ) where
-  pub built_start : Built f 0 0
+module _ (n : ℕ) (f : ℕ → ℕ) where
+  pub built_start : Built n f 0 0
   unfolding number
-  built_start = record { is = refl; small = omega arith }
+  built_start = record { within = omega arith; is = refl; small = omega arith }
 
-  module _ (x i b y : ℕ) (h : Built f x i) (one : b ≤ 1) (e : y ≡ b * 2 ^ i) where
+  module _ (x i b y : ℕ) (h : Built n f x i) (l : i < n) (one : b ≤ 1) (e : y ≡ b * 2 ^ i) where
     next_lt : x + y < 2 ^ suc i
     next_lt = rw (pow-suc 2 i) (omega (arith, mul-le-mul_right (2 ^ i) one, h.small))
 
-    pub built_room : i < 64 → x + y < 2 ^ 64
+    pub built_room : n ≤ 64 → x + y < 2 ^ 64
     built_room g = let k : suc i ≤ 64 = omega arith in omega (arith, next_lt, pow_mono k)
 
-    pub built_step : b ≡ f i → Built f (x + y) (i + 1)
+    pub built_step : b ≡ f i → Built n f (x + y) (i + 1)
     unfolding number
     built_step g =
         rw (add-one i) (record {
+          within = omega arith;
           is = omega (arith, h.is, ap (λ (z : ℕ). z * 2 ^ i) g);
           small = next_lt;
         })
 
-  pub built_done : (x i n : ℕ) → Built f x i → i ≡ n → (x ≡ number n f) × (x < 2 ^ n)
-  built_done x i n h e = (rw e at h.is, rw e at h.small)
+  pub built_done : (x i : ℕ) → Built n f x i → n ≤ i → (x ≡ number n f) × (x < 2 ^ n)
+  built_done x i h g = let e : i ≡ n = le_antisymm h.within g in (rw e at h.is, rw e at h.small)
 
 -- ---- what `all` answers over the n bits from bit `low` up
 

@@ -1,4 +1,3 @@
--- what the explainer answers, when each of its answers is true, and names for the steps of its loops
+-- what the explainer answers, and when each of its answers is true
 pub mod Reasons
 pub mod Truth
-pub mod Walks

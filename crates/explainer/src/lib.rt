@@ -8,14 +8,13 @@ ghost use Rattle.machine.specs.Machine.{machine, syllables};
 ghost use Rattle.machine.specs.Search.{unmixed};
 ghost use Rattle.chains.specs.Walks.{syllable};
 ghost use Rattle.explainer.specs.Reasons as reasons;
-ghost use Rattle.explainer.specs.Truth as truth;
-ghost use Rattle.explainer.specs.Walks as walks;
 
 use chains::bits::bit_of;
-use chains::search::{accepted_at, bottom_of, code_at, pass_on};
+use chains::search::{accepted_at, code_at, pass_on};
+use chains::syllables::{Syllable, down_from};
 use machine::{
     BitSlice, Lines, Panel, RESPONSE_BITS, Refusal, Response, ResponseBit, Status, WordSlice,
-    refuse,
+    is_selected, refuse,
 };
 
 // What is answered of a word. The syllable is told by the number of its top bit.
@@ -27,46 +26,26 @@ pub enum Reason {
     EqualToTheBottom(BitSlice),
 }
 
-// ---- what is found one after the other: the first that is no "matched" counts
-
-fn first_of(first: Reason, second: Reason) -> Reason
-    ensures { result ≡ walks.first_of first second }
-{
-    if first == Reason::Matched {
-        second
-    } else {
-        first
-    }
-}
-
 // ---- "not selected, with the lowest response bit that differs"
 
-fn at_bit(panel: Panel, response: Response, i: u8) -> Reason
+// From the key, at a bit that care has.
+fn differs(panel: Panel, response: Response, i: u32) -> bool
     requires { i < 64 }
-    ensures { result ≡ walks.at_bit panel response i }
+    ensures { result ≡ reasons.differs panel response i }
 {
-    let care = bit_of(panel.care as u64, i as u32);
-    let bit = bit_of(response as u64, i as u32);
-    let key = bit_of(panel.key as u64, i as u32);
-    if (care == 1) & !(bit == key) {
-        Reason::NotSelected(ResponseBit(i))
-    } else {
-        Reason::Matched
-    }
+    let care = bit_of(panel.care as u64, i);
+    let bit = bit_of(response as u64, i);
+    let key = bit_of(panel.key as u64, i);
+    (care == 1) & (bit != key)
 }
 
-// From bit 0 up.
-fn selection(panel: Panel, response: Response) -> Reason
-    ensures { result ≡ walks.selection panel response }
+fn not_selected(panel: Panel, response: Response) -> Reason
+    ensures { result ≡ reasons.not_selected panel response }
 {
-    let mut given = Reason::Matched;
-    let mut i: u8 = 0;
-    while (i as u32) < RESPONSE_BITS {
-        let bit = at_bit(panel, response, i);
-        given = first_of(given, bit);
-        i += 1;
-    }
-    given
+    let lowest = (0..RESPONSE_BITS)
+        .find(|i| differs(panel, response, *i))
+        .unwrap_or(RESPONSE_BITS);
+    Reason::NotSelected(ResponseBit(lowest as u8))
 }
 
 // ---- "with the bit where it was settled against, or "equal to the bottom""
@@ -83,84 +62,65 @@ fn cell_at(panel: Panel, w: u64, i: u32, above: Status) -> Status
     )
 }
 
-// What the status says that bit `bit` passes on.
-fn at_cell(status: Status, top: u8, bit: u8) -> Reason
-    ensures { result ≡ walks.at_cell status top bit }
+fn is_against(status: Status) -> bool
+    ensures { result ≡ reasons.is_against status }
 {
-    match status {
-        Status::Equal => Reason::Matched,
-        Status::For => Reason::Matched,
-        Status::Against => Reason::Against {
-            syllable: BitSlice(top),
-            bit: BitSlice(bit),
-        },
-    }
+    status == Status::Against
 }
 
 // From the top bit down.
-fn down_through(panel: Panel, w: u64, top: u8, low: u32, width: u32) -> Reason
-    requires { low + width ≤ 64 }
-    ensures { result ≡ reasons.down_through panel w top (syllable low width) width Status.Equal }
+fn down_through(panel: Panel, w: u64, top: u8, y: Syllable) -> Reason
+    ensures { result ≡ reasons.down_through panel w top (syllable y.low y.width) y.width Status.Equal }
 {
-    let mut given = Reason::Matched;
     let mut status = Status::Equal;
-    let mut j = width;
-    while 0 < j {
-        j -= 1;
-        let i = low + j;
-        status = cell_at(panel, w, i, status);
-        let cell = at_cell(status, top, i as u8);
-        given = first_of(given, cell);
+    for j in (0..y.width).rev() {
+        let bit = y.low + j;
+        status = cell_at(panel, w, bit, status);
+        if is_against(status) {
+            return Reason::Against {
+                syllable: BitSlice(top),
+                bit: BitSlice(bit as u8),
+            };
+        }
     }
-    first_of(given, Reason::EqualToTheBottom(BitSlice(top)))
+    Reason::EqualToTheBottom(BitSlice(top))
 }
 
 fn in_syllable(panel: Panel, w: u64, top: u8) -> Reason
     requires { top < 64 }
     ensures { result ≡ reasons.in_syllable panel w top }
 {
-    let low = bottom_of(panel.sdr, top as u32);
-    down_through(panel, w, top, low, top as u32 + 1 - low)
+    down_through(panel, w, top, down_from(panel.sdr, top as u32))
 }
 
 // ---- "the topmost syllable not satisfied"
 
-// At bit t: of the syllable that it starts, if it starts one.
-fn at_top(n: u32, panel: Panel, w: u64, t: u32) -> Reason
-    requires { t < 64 }
-    ensures { result ≡ walks.at_top n panel w t }
-{
-    if accepted_at(n, panel, w, t) {
-        Reason::Matched
-    } else {
-        in_syllable(panel, w, t as u8)
-    }
-}
-
-// From the top bit down.
+// From the top bit down, at each bit of the syllable that it starts, if it starts one.
 fn topmost(n: u32, panel: Panel, w: u64) -> Reason
     requires n_bound { n ≤ 64 }
     requires sdr_value { all (unmixed panel) (syllables n panel.sdr) ≡ true }
     ensures { result ≡ reasons.topmost n panel w n }
 {
-    let mut given = Reason::Matched;
-    let mut t = n;
-    while 0 < t {
-        t -= 1;
-        let syllable = at_top(n, panel, w, t);
-        given = first_of(given, syllable);
+    for t in (0..n).rev() {
+        let accepted = accepted_at(n, panel, w, t);
+        if !accepted {
+            return in_syllable(panel, w, t as u8);
+        }
     }
-    given
+    Reason::Matched
 }
 
+#[tactic(auto, unfolding(crate::specs::Reasons::reason))]
 fn reason_of(n: u32, panel: Panel, w: u64, response: Response) -> Reason
     requires n_bound { n ≤ 64 }
     requires sdr_value { all (unmixed panel) (syllables n panel.sdr) ≡ true }
     ensures { result ≡ reasons.reason n panel w response }
 {
-    let selected = selection(panel, response);
-    let satisfied = topmost(n, panel, w);
-    first_of(selected, satisfied)
+    if is_selected(panel.key, panel.care, response) {
+        topmost(n, panel, w)
+    } else {
+        not_selected(panel, response)
+    }
 }
 
 // ---- the call

@@ -1,22 +1,19 @@
-use mathlib.Core.Path.{refl}
-use Rattle.explainer.proofs.Answers.{tops_step, tops_done}
+use mathlib.Core.Path.{◌∙◌}
+use Rattle.explainer.proofs.Answers.{stops_at, goes_below, all_satisfied}
 use borrow.Author.Rules.{rules}
 use Rattle.explainer.proofs.topmost.Goals as goal
 
-pub loop-t-init : goal.loop-t-init
-loop-t-init c = (search rules, refl)
+pub returns-then-not-accepted : goal.returns-then-not-accepted
+returns-then-not-accepted c =
+    let a = c.args in
+    c.in_syllable.ensures ∙ stops_at a.n a.panel a.w c.requires.sdr_value c.loop-t.t c.accepted_at-accepted.result (search rules) (search rules) c.loop-t.invariant c.accepted_at-accepted.ensures c.if-not-accepted.true
 
 pub loop-t-preserved : goal.loop-t-preserved
 loop-t-preserved c =
-    let l = c.loop-t in
-    let a = c.args in (
-      search rules,
-      tops_step a.n a.panel a.w c.requires.sdr_value l.t l.given c.at_top-syllable.result c.first_of-given.result (search rules)
-          (search rules) l.invariant.1 c.at_top-syllable.ensures c.first_of-given.ensures,
-    )
+    let a = c.args in
+    goes_below a.n a.panel a.w c.requires.sdr_value c.loop-t.t c.accepted_at-accepted.result (search rules) (search rules) c.loop-t.invariant c.accepted_at-accepted.ensures c.if-not-accepted.false
 
 pub returns : goal.returns
 returns c =
-    let l = c.loop-t in
     let a = c.args in
-    tops_done a.n a.panel a.w c.requires.sdr_value l.t l.given (search rules) l.invariant.1
+    all_satisfied a.n a.panel a.w c.requires.sdr_value c.loop-t.t (search rules) c.loop-t.invariant

@@ -7,4 +7,4 @@ use Rattle.chains.proofs.Passing.{Below}
 use Rattle.chains.proofs.add.add_cells.Given as goal
 
 abbrev pub invariant-loop-j : goal.invariant-loop-j
-invariant-loop-j l = Built (sum_bit (λ j. bit l.w (l.y.low + j)) (λ j. addend l.panel (l.y.low + j))) l.sum l.j × Below (λ j. bit l.w (l.y.low + j)) (λ j. addend l.panel (l.y.low + j)) l.carry l.j
+invariant-loop-j l = Built l.y.width (sum_bit (λ j. bit l.w (l.y.low + j)) (λ j. addend l.panel (l.y.low + j))) l.sum l.j × Below (λ j. bit l.w (l.y.low + j)) (λ j. addend l.panel (l.y.low + j)) l.carry l.j

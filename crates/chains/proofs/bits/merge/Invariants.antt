@@ -3,4 +3,4 @@ use Rattle.laws.specs.Bits.{bit, under}
 use Rattle.chains.proofs.bits.merge.Given as goal
 
 abbrev pub invariant-loop-i : goal.invariant-loop-i
-invariant-loop-i l = Built (under l.mask (bit l.x) (bit l.y)) l.word l.i
+invariant-loop-i l = Built l.n (under l.mask (bit l.x) (bit l.y)) l.word l.i
