@@ -7,13 +7,13 @@ use native.Mathlib.Omega.{arith}
 use lib.ListN.{length, take, drop, get_or, length-append, length-drop, take-append-drop}
 use lib.Pow.{pow_mono, pow-add}
 use lib.Seq.{drop-cons, drop-drop, drop-length, take-take, length-take-le}
+use Rattle.std.specs.Prelude.{Some, None}
 use Rattle.machine.specs.declared.ResponseBit.{ResponseBit}
 use Rattle.job_plans.specs.declared.Job.{Job}
 use Rattle.job_plans.specs.declared.Span.{Span}
+use Rattle.job_plans.specs.Fields.{Held}
 use Rattle.image_layout.specs.Sizes.{count_size, response_size, record_size, most_jobs, bits_at, constant_size}
 use Rattle.image_layout.specs.Format.{bytes, value, number_at, items, section, byte, bit_at, span_at, job_of, job_bytes, held_jobs, held_of, Under, AreBytes, JobFits}
-use Rattle.job_plans.specs.Fields.{Held}
-use Rattle.std.specs.Prelude.{Some, None}
 
 -- ---- lists of bytes
 

@@ -9,13 +9,13 @@ use lib.Dec.{ltb, leb}
 use lib.ListN.{length, take, drop, replicate, length-drop}
 use lib.Seq.{drop-drop}
 use borrow.Author.Tests.{lt-ltb, le-ltb, lt-leb, ltb-false, leb-true, leb-false, eq-eqb, ne_eqb}
+use Rattle.std.specs.Prelude.{Ok, Err, IsErrAnd, Some, None}
 use Rattle.laws.specs.Bits.{pick}
 use Rattle.laws.proofs.Bits.{and_left, and_right}
 use Rattle.image_layout.specs.Sizes.{count_size, word_size, response_size, record_size, most_jobs, items_at, past_section, width_at, words_at, responses_at, jobs_at}
 use Rattle.image_layout.specs.Format.{number_at, job_of, held_of}
 use Rattle.image_layout.specs.Reading.{Field, scan, count_is, word_count, width_byte, word_field, response_field, job_count, job_field, width_in, words_in, jobs_in, records, fields_of, scanned, Scanned}
 use Rattle.image_parts.specs.Parts.{holds, onward, job_fields, after_words}
-use Rattle.std.specs.Prelude.{Ok, Err, IsErrAnd, Some, None}
 
 -- what `?` hands on is the very place
 pub handed : (d : Scanned) (e at : ℕ) → IsErrAnd d (λ y. y ≡ e) → e ≡ at → d ≡ Err at

@@ -6,17 +6,17 @@ use native.Mathlib.Nat.{suc-add, add-suc, add-zero}
 use native.Mathlib.Numerals.{add-one}
 use native.Mathlib.Omega.{arith}
 use lib.ListN.{length, take, drop, get_or, set}
-use borrow.Rule.Slice.PartMut.{put_mid}
 use lib.Seq.{sets, sets-eq, drop-cons, drop-drop, drop-length}
+use borrow.Rule.Slice.PartMut.{put_mid}
+use Rattle.std.specs.Prelude.{Some, None}
 use Rattle.machine.specs.Machine.{Machine}
 use Rattle.job_plans.specs.declared.Job.{Job}
+use Rattle.job_plans.specs.Fields.{Held}
 use Rattle.image_layout.specs.Sizes.{count_size, width_size, word_size, response_size, record_size, constant_size, items_at, past_section, width_at, responses_at}
 use Rattle.image_layout.specs.Format.{bytes, number_at, items, section, job_bytes, held_jobs}
 use Rattle.image_layout.specs.Reading.{numbers}
-use Rattle.image_stores.specs.Stored.{machine_bytes}
 use Rattle.image_layout.proofs.Format.{length_bytes, length_items}
-use Rattle.job_plans.specs.Fields.{Held}
-use Rattle.std.specs.Prelude.{Some, None}
+use Rattle.image_stores.specs.Stored.{machine_bytes}
 
 pub sets_append : (s t d : List ℕ) (i : ℕ) → sets d i (s ++ t) ≡ sets (sets d i s) (i + length s) t
 sets_append [] t d i = rw add-zero

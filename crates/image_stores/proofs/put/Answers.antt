@@ -1,8 +1,8 @@
 use Prim.Native.Nat.{◌+◌}
 use mathlib.Core.Path.{◌≡◌, refl, sym, ◌∙◌}
 use native.Mathlib.Omega.{arith}
-use borrow.Author.Rules.{rules}
 use lib.ListN.{length-set}
+use borrow.Author.Rules.{rules}
 use Rattle.image_stores.proofs.Stored.{put_none, put_turn}
 use Rattle.image_stores.proofs.put.Goals as goal
 

@@ -1,7 +1,7 @@
 use mathlib.Core.Path.{◌≡◌, sym, ◌∙◌}
 use native.Mathlib.Omega.{arith}
-use borrow.Author.Rules.{rules}
 use lib.ListN.{length}
+use borrow.Author.Rules.{rules}
 use Rattle.image_layout.specs.Sizes.{word_size}
 use Rattle.image_stores.proofs.Stored.{items_turn, items_none}
 use Rattle.image_stores.proofs.put_words.Goals as goal

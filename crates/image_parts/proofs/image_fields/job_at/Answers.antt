@@ -1,8 +1,8 @@
-use native.Mathlib.Omega.{arith}
 use Prim.Native.Nat.{ℕ, ◌+◌}
 use mathlib.Core.Path.{◌≡◌, ◌∙◌}
-use Rattle.machine.specs.declared.ResponseBit.{ResponseBit}
+use native.Mathlib.Omega.{arith}
 use lib.ListN.{take, drop}
+use Rattle.machine.specs.declared.ResponseBit.{ResponseBit}
 use Rattle.image_layout.specs.Sizes.{response_size, record_size, bits_at, constant_size}
 use Rattle.image_layout.proofs.Format.{in_record, made}
 use Rattle.image_parts.proofs.image_fields.job_at.Goals as goal

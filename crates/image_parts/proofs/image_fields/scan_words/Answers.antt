@@ -1,8 +1,8 @@
 use Prim.Native.Nat.{ℕ, ◌+◌, ◌≤◌}
 use mathlib.Core.Path.{◌≡◌, sym, ◌∙◌}
 use native.Mathlib.Omega.{arith}
-use lib.ListN.{length}
 use native.Mathlib.Nat.{sub-zero}
+use lib.ListN.{length}
 use Rattle.image_layout.specs.Sizes.{word_size, responses_at}
 use Rattle.image_layout.specs.Reading.{word_field}
 use Rattle.image_parts.proofs.Parts.{handed, held, field_wrong, one_more, no_more, word_step}

@@ -1,7 +1,7 @@
 use Prim.Native.Nat.{◌-◌, ◌≤◌}
 use mathlib.Core.Path.{◌≡◌}
-use lib.ListN.{length, drop, replicate}
 use mathlib.Core.List.{List, ◌++◌}
+use lib.ListN.{length, drop, replicate}
 use Rattle.image_layout.specs.Sizes.{items_at, words_at, responses_at}
 use Rattle.image_layout.specs.Reading.{Field, scan, word_field}
 use Rattle.image_parts.proofs.image_fields.scan_words.Given as goal
