@@ -10,46 +10,46 @@ use lib.Dec.{ltb, eqb}
 use lib.ListN.{length, take, drop, replicate, length-drop}
 use lib.Seq.{take-take, length-take-le}
 use borrow.Author.Tests.{lt-ltb, le-ltb, ltb-true, ltb-false, eqb-true}
+use Rattle.std.specs.Prelude.{Ok, Err}
 use Rattle.laws.specs.Bits.{pick}
-use Rattle.image_layout.specs.declared.Scanned.TheVariants.{Sound, Broken}
 use Rattle.jobs.specs.Runs.{State}
 use Rattle.image_layout.specs.Sizes.{count_size, width_size, items_at, width_at, words_at, jobs_at}
 use Rattle.image_layout.specs.Format.{value, number_at, image_of}
-use Rattle.image_layout.specs.Reading.{Field, scan, count_is, word_count, width_byte, word_field, response_field, job_count, job_field, width_in, words_in, jobs_in, fields_of, scanned}
+use Rattle.image_layout.specs.Reading.{Field, scan, count_is, word_count, width_byte, word_field, response_field, job_count, job_field, width_in, words_in, jobs_in, fields_of, scanned, Scanned}
 use Rattle.image_layout.proofs.Format.{drop_take, before_cut}
+use Rattle.image_layout.specs.Reading.{start_of}
 use Rattle.image.proofs.RoundTrip.{image_sound}
 use Rattle.image.specs.Calls.{Stored}
-use Rattle.image_layout.specs.Reading.{start_of}
 
 -- ---- every place is within the bytes
 
-end_within : (n at p : ℕ) (t : Bool) → pick t Sound (Broken at) ≡ Broken p → p ≤ at + n
+end_within : (n at p : ℕ) (t : Bool) → ◌≡◌ {A = Scanned} (pick t (Ok tt) (Err at)) (Err p) → p ≤ at + n
 end_within n at p true h = absurd (let z : ◌≡◌ {A = ℕ} 0 1 = cc in omega arith)
 end_within n at p false h = let e : at ≡ p = cc in omega arith
 
-scan_within : (fs : List Field) (at p : ℕ) (b : List ℕ) → scan fs at b ≡ Broken p → p ≤ at + length b
+scan_within : (fs : List Field) (at p : ℕ) (b : List ℕ) → scan fs at b ≡ Err p → p ≤ at + length b
 unfolding scan
 scan_within [] at p b h = end_within (length b) at p (eqb (length b) 0) h
 scan_within (f ∷ fs) at p b h = go (ltb (length b) f.size) (f.right (take f.size b)) refl h (scan_within fs (at + f.size) p (drop f.size b))
   where
-    go : (t u : Bool) → ltb (length b) f.size ≡ t → pick t (Broken at) (pick u (scan fs (at + f.size) (drop f.size b)) (Broken at)) ≡ Broken p
-        → (scan fs (at + f.size) (drop f.size b) ≡ Broken p → p ≤ at + f.size + length (drop f.size b)) → p ≤ at + length b
+    go : (t u : Bool) → ltb (length b) f.size ≡ t → pick t (Err at) (pick u (scan fs (at + f.size) (drop f.size b)) (Err at)) ≡ Err p
+        → (scan fs (at + f.size) (drop f.size b) ≡ Err p → p ≤ at + f.size + length (drop f.size b)) → p ≤ at + length b
     go true u e g r = let q : at ≡ p = cc in omega arith
     go false true e g r = omega (arith, r g, length-drop f.size b, ltb-false (length b) f.size e)
     go false false e g r = let q : at ≡ p = cc in omega arith
 
 -- no place is beyond the input's end
-pub within : (b : List ℕ) (p : ℕ) → scanned b ≡ Broken p → p ≤ length b
+pub within : (b : List ℕ) (p : ℕ) → scanned b ≡ Err p → p ≤ length b
 unfolding scanned
 within b p h = omega (arith, scan_within (fields_of b) 0 p b h)
 
 -- ---- a prefix
 
-prefix : (fs : List Field) (at k : ℕ) (b : List ℕ) → scan fs at b ≡ Sound → k < length b → scan fs at (take k b) ≡ Broken (start_of fs at (at + k))
+prefix : (fs : List Field) (at k : ℕ) (b : List ℕ) → scan fs at b ≡ Ok tt → k < length b → scan fs at (take k b) ≡ Err (start_of fs at (at + k))
 unfolding scan start_of
 prefix [] at k b h l = go (eqb (length b) 0) refl h
   where
-    go : (t : Bool) → eqb (length b) 0 ≡ t → pick t Sound (Broken at) ≡ Sound → scan [] at (take k b) ≡ Broken (start_of [] at (at + k))
+    go : (t : Bool) → eqb (length b) 0 ≡ t → ◌≡◌ {A = Scanned} (pick t (Ok tt) (Err at)) (Ok tt) → scan [] at (take k b) ≡ Err (start_of [] at (at + k))
     go true e g = absurd (omega (arith, eqb-true (length b) 0 e))
     go false e g = absurd (let z : ◌≡◌ {A = ℕ} 0 1 = cc in omega arith)
 prefix (f ∷ fs) at k b h l =
@@ -59,11 +59,11 @@ prefix (f ∷ fs) at k b h l =
     same j m e = let q : k ≡ f.size + j = omega arith in rw q (drop_take f.size j b)
 
     go : (t u v : Bool) → ltb (length b) f.size ≡ t → f.right (take f.size b) ≡ u → ltb k f.size ≡ v
-        → pick t (Broken at) (pick u (scan fs (at + f.size) (drop f.size b)) (Broken at)) ≡ Sound
-        → (scan fs (at + f.size) (drop f.size b) ≡ Sound → k - f.size < length (drop f.size b)
-        → scan fs (at + f.size) (take (k - f.size) (drop f.size b)) ≡ Broken (start_of fs (at + f.size) (at + f.size + (k - f.size))))
-        → pick (ltb (length (take k b)) f.size) (Broken at) (pick (f.right (take f.size (take k b))) (scan fs (at + f.size) (drop f.size (take k b))) (Broken at))
-        ≡ Broken (pick (ltb (at + k) (at + f.size)) at (start_of fs (at + f.size) (at + k)))
+        → pick t (Err at) (pick u (scan fs (at + f.size) (drop f.size b)) (Err at)) ≡ Ok tt
+        → (scan fs (at + f.size) (drop f.size b) ≡ Ok tt → k - f.size < length (drop f.size b)
+        → scan fs (at + f.size) (take (k - f.size) (drop f.size b)) ≡ Err (start_of fs (at + f.size) (at + f.size + (k - f.size))))
+        → pick (ltb (length (take k b)) f.size) (Err at) (pick (f.right (take f.size (take k b))) (scan fs (at + f.size) (drop f.size (take k b))) (Err at))
+        ≡ Err (pick (ltb (at + k) (at + f.size)) at (start_of fs (at + f.size) (at + k)))
     go true u v e i j g r = absurd (let z : ◌≡◌ {A = ℕ} 0 1 = cc in omega arith)
     go false false v e i j g r = absurd (let z : ◌≡◌ {A = ℕ} 0 1 = cc in omega arith)
     go false true true e i j g r =
@@ -92,8 +92,8 @@ beyond [] gs hs at b l = absurd (omega arith)
 beyond (f ∷ fs) gs hs at b l = go (ltb (length b) f.size) refl (λ m. beyond fs gs hs (at + f.size) (drop f.size b) m)
   where
     go : (t : Bool) → ltb (length b) f.size ≡ t → (length (drop f.size b) < sizes fs → scan (fs ++ gs) (at + f.size) (drop f.size b) ≡ scan (fs ++ hs) (at + f.size) (drop f.size b))
-        → pick (ltb (length b) f.size) (Broken at) (pick (f.right (take f.size b)) (scan (fs ++ gs) (at + f.size) (drop f.size b)) (Broken at))
-        ≡ pick (ltb (length b) f.size) (Broken at) (pick (f.right (take f.size b)) (scan (fs ++ hs) (at + f.size) (drop f.size b)) (Broken at))
+        → pick (ltb (length b) f.size) (Err at) (pick (f.right (take f.size b)) (scan (fs ++ gs) (at + f.size) (drop f.size b)) (Err at))
+        ≡ pick (ltb (length b) f.size) (Err at) (pick (f.right (take f.size b)) (scan (fs ++ hs) (at + f.size) (drop f.size b)) (Err at))
     go true e r = rw e
     go false e r = rw (e, r (omega (arith, length-drop f.size b, ltb-false (length b) f.size e)))
 
@@ -147,9 +147,9 @@ alike k b l = go (ltb k (items_at words_at)) refl
     go false e = late k b l (ltb-false k (items_at words_at) e)
 
 -- of bytes that are sound, a proper prefix is refused at the start of the field that it cuts
-pub cut_off : (k : ℕ) (b : List ℕ) → scanned b ≡ Sound → k < length b → scanned (take k b) ≡ Broken (start_of (fields_of b) 0 k)
+pub cut_off : (k : ℕ) (b : List ℕ) → scanned b ≡ Ok tt → k < length b → scanned (take k b) ≡ Err (start_of (fields_of b) 0 k)
 unfolding scanned
-cut_off k b h l = alike k b l ∙ prefix (fields_of b) 0 k b h l ∙ ap (λ (q : ℕ). Broken (start_of (fields_of b) 0 q)) (zero-add k)
+cut_off k b h l = alike k b l ∙ prefix (fields_of b) 0 k b h l ∙ ap (λ (q : ℕ). Err (start_of (fields_of b) 0 q)) (zero-add k)
 
 -- that start is at or before offset k (and, by definition, the field that starts there goes beyond k)
 pub start_below : (fs : List Field) (at k : ℕ) → at ≤ k → start_of fs at k ≤ k
@@ -162,5 +162,5 @@ start_below (f ∷ fs) at k h = go (ltb k (at + f.size)) refl (start_below fs (a
     go false e r = r (ltb-false k (at + f.size) e)
 
 -- so of an image
-pub image_cut_off : (s : State) (k : ℕ) → Stored s → k < length (image_of s) → scanned (take k (image_of s)) ≡ Broken (start_of (fields_of (image_of s)) 0 k)
+pub image_cut_off : (s : State) (k : ℕ) → Stored s → k < length (image_of s) → scanned (take k (image_of s)) ≡ Err (start_of (fields_of (image_of s)) 0 k)
 image_cut_off s k t l = cut_off k (image_of s) (image_sound s t) l

@@ -1,58 +1,62 @@
--- Reading as a whole: its checks in order, and what sound bytes leave.
-use Prim.Native.Nat.{ℕ, ◌≤◌}
-use mathlib.Core.Path.{◌≡◌, refl, sym, ◌∙◌}
+-- Reading as a whole: what its checks show, and what sound bytes leave.
+use Prim.Native.Nat.{ℕ, zero, suc, ◌+◌, ◌*◌, ◌-◌, ◌≤◌}
+use mathlib.Core.Path.{◌≡◌, refl, sym, ap, ◌∙◌}
 use mathlib.Core.Bool.{◌||◌}
-use mathlib.Core.List.{List}
+use mathlib.Core.List.{List, [], ◌∷◌, ◌++◌}
+use native.Mathlib.Omega.{arith}
 use lib.Dec.{ltb}
-use lib.ListN.{length, drop}
-use lib.Seq.{sets}
+use lib.ListN.{length, take, drop, length-drop}
+use lib.Seq.{sets, sets-eq}
 use borrow.Author.Tests.{ltb-false}
+use Rattle.std.specs.Prelude.{Result, Ok, Err}
 use Rattle.machine.specs.declared.Refusal.{Refusal}
-use Rattle.machine.specs.declared.Refusal.TheVariants.{Malformed, NoRoom}
-use Rattle.machine.specs.declared.Check.{Check}
-use Rattle.machine.specs.declared.Check.TheVariants.{Passed, Refused}
-use Rattle.machine.specs.Refusals.{refuse}
+use Rattle.machine.specs.declared.Refusal.TheVariants.{NoRoom}
 use Rattle.machine.proofs.Refusals.{else_passed, not_refused, or_left, or_right}
-use Rattle.job_plans.specs.declared.Held.{Held}
-use Rattle.image_layout.specs.declared.Scanned.{Scanned}
-use Rattle.image_layout.specs.declared.Scanned.TheVariants.{Sound, Broken}
-use Rattle.image.specs.declared.Read.TheVariants as read
+use Rattle.job_plans.specs.Fields.{Held}
 use Rattle.image_layout.specs.Sizes.{count_size, word_size, response_size, record_size, items_at, past_section, words_at, responses_at, jobs_at}
-use Rattle.image_layout.specs.Format.{number_at, held_of}
-use Rattle.image_layout.specs.Reading.{scanned, state_in, width_in, words_in, records, jobs_of, numbers}
-use Rattle.image.specs.Calls.{refuse_bytes, read_check, read_of, words_read, responses_read}
+use Rattle.image_layout.specs.Format.{value, number_at, held_of}
+use Rattle.image_layout.specs.Reading.{scanned, state_in, width_in, words_in, records, jobs_of, numbers, Scanned}
 use Rattle.image_layout.proofs.Reading.{length_numbers}
 use Rattle.image_parts.proofs.Parts.{Long, long}
+use Rattle.image.specs.Calls.{refuse_bytes, read_check, read_of, words_read, responses_read}
+use Rattle.image.specs.declared.Loaded.{Loaded}
 
--- ---- the checks
+-- ---- responses, each of one byte, are copied as they are
 
-pub read_broken : (b : List ℕ) (w r at : ℕ) (k : Scanned) → k ≡ scanned b → k ≡ Broken at → Refused (Malformed at) ≡ read_check b w r
-unfolding read_check
-read_broken b w r at k e h = rw (← e, h)
+numbers_are : (n : ℕ) (b : List ℕ) → n ≤ length b → take n b ≡ numbers response_size n b
+unfolding numbers value
+numbers_are zero b h = refl
+numbers_are (suc n) [] h = absurd (omega arith)
+numbers_are (suc n) (x ∷ b) h =
+    let e : x ≡ x + 256 * 0 = omega arith in
+    rw (← e) (ap (λ (r : List ℕ). x ∷ r) (numbers_are n b (omega arith)))
 
-pub read_sound : (b : List ℕ) (w r n : ℕ) (k : Scanned) (t : Check) → k ≡ scanned b → k ≡ Sound → n ≡ words_in b → t ≡ refuse NoRoom (ltb w n || ltb r n)
-    → t ≡ read_check b w r
-unfolding read_check
-read_sound b w r n k t e h f g =
-    let z : t ≡ refuse NoRoom (ltb w (words_in b) || ltb r (words_in b)) = rw f at g in
-    rw (← e, h) z
+pub copied : (d b x : List ℕ) (at n : ℕ) → at + response_size * n ≤ length b → n ≤ length d → x ≡ take (at + n - at) (drop at b)
+    → x ++ drop n d ≡ sets d 0 (numbers response_size n (drop at b))
+copied d b x at n h g e =
+    let xs = numbers response_size n (drop at b) in
+    let k : at + n - at ≡ n = omega arith in
+    let f : x ≡ xs = rw k at e ∙ numbers_are n (drop at b) (omega (arith, length-drop at b)) in
+    let l : 0 + length xs ≡ n = omega (arith, length_numbers response_size n (drop at b)) in
+    let m : 0 + length xs ≤ length d = omega (arith, l) in
+    rw f (sym (rw l at (sets-eq xs d 0 m)))
 
 -- ---- the call
 
 pub record Fits (b : List ℕ) (w r : ℕ) : Type 0 where
-  pub sound : scanned b ≡ Sound
+  pub sound : scanned b ≡ Ok tt
   pub long : Long b
   pub words : words_in b ≤ w
   pub responses : words_in b ≤ r
 
-unbroken : (k : Scanned) → refuse_bytes k ≡ Passed → k ≡ Sound
-unbroken Sound h = refl
-unbroken (Broken at) h = cc
+pub unbroken : (k : Scanned) → refuse_bytes k ≡ Ok tt → k ≡ Ok tt
+unbroken (Ok tt) h = refl
+unbroken (Err at) h = cc
 
-pub fits : (b : List ℕ) (w r : ℕ) (k : Check) → k ≡ read_check b w r → k ≡ Passed → Fits b w r
+pub fits : (b : List ℕ) (w r : ℕ) → Ok tt ≡ read_check b w r → Fits b w r
 unfolding read_check
-fits b w r k e h =
-    let a = else_passed (refuse_bytes (scanned b)) _ (sym e ∙ h) in
+fits b w r e =
+    let a = else_passed (refuse_bytes (scanned b)) _ (sym e) in
     let s = unbroken (scanned b) a.0 in
     let t = not_refused NoRoom (ltb w (words_in b) || ltb r (words_in b)) a.1 in
     record {
@@ -69,27 +73,27 @@ pub record Room (b : List ℕ) (n w r : ℕ) : Type 0 where
   pub words : n ≤ w
   pub responses : n ≤ r
 
-pub room : (b : List ℕ) (n w r : ℕ) (k : Check) → k ≡ read_check b w r → k ≡ Passed → n ≡ words_in b → Room b n w r
-room b n w r k e h g =
-    let f = fits b w r k e h in
+pub room : (b : List ℕ) (n w r : ℕ) → Ok tt ≡ read_check b w r → n ≡ words_in b → Room b n w r
+room b n w r e g =
+    let f = fits b w r e in
     record { few = rw g f.long.few; room = rw g f.long.room; words = rw g f.words; responses = rw g f.responses }
 
-pub read_refused : (b ws rs : List ℕ) (k : Check) (why : Refusal) → k ≡ read_check b (length ws) (length rs) → k ≡ Refused why
-    → (read.Refused why ≡ read_of b (length ws) (length rs)) × ((ws ≡ words_read b ws rs) × (rs ≡ responses_read b ws rs))
+pub read_refused : (b ws rs : List ℕ) (why : Refusal) → Err why ≡ read_check b (length ws) (length rs)
+    → (Err why ≡ read_of b (length ws) (length rs)) × ((ws ≡ words_read b ws rs) × (rs ≡ responses_read b ws rs))
 unfolding read_of words_read responses_read
-read_refused b ws rs k why e h = (rw (← e, h), (rw (← e, h), rw (← e, h)))
+read_refused b ws rs why e = (rw (← e), (rw (← e), rw (← e)))
 
-pub read_done : (b ws rs ws' rs' : List ℕ) (k : Check) (w n : ℕ) (o : Held) → k ≡ read_check b (length ws) (length rs) → k ≡ Passed
+pub read_done : (b ws rs ws' rs' : List ℕ) (w n : ℕ) (o : Held) → Ok tt ≡ read_check b (length ws) (length rs)
     → w ≡ width_in b → n ≡ words_in b
     → o ≡ held_of (records (number_at count_size (jobs_at n) b) (drop (items_at (jobs_at n)) b))
     → ws' ≡ sets ws 0 (numbers word_size n (drop (items_at words_at) b)) → rs' ≡ sets rs 0 (numbers response_size n (drop (items_at (responses_at n)) b))
-    → (read.Machine w n o ≡ read_of b (length ws) (length rs)) × ((ws' ≡ words_read b ws rs) × (rs' ≡ responses_read b ws rs))
+    → (Ok (record { width = w; words = n; held = o }) ≡ read_of b (length ws) (length rs)) × ((ws' ≡ words_read b ws rs) × (rs' ≡ responses_read b ws rs))
 unfolding read_of words_read responses_read state_in
-read_done b ws rs ws' rs' k w n o e h f g i p q =
+read_done b ws rs ws' rs' w n o e f g i p q =
     let ns = numbers word_size (words_in b) (drop (items_at words_at) b) in
     let l : n ≡ length ns = g ∙ sym (length_numbers word_size (words_in b) (drop (items_at words_at) b)) in
     let j : o ≡ held_of (jobs_of b) = rw g at i in
-    let a : read.Machine w n o ≡ read.Machine (width_in b) (length ns) (held_of (jobs_of b)) = cc in
+    let a : ◌≡◌ {A = Result Loaded Refusal} (Ok (record { width = w; words = n; held = o })) (Ok (record { width = width_in b; words = length ns; held = held_of (jobs_of b) })) = rw (f, ← l, j) in
     let y : ws' ≡ sets ws 0 ns = rw g at p in
     let z : rs' ≡ sets rs 0 (numbers response_size (words_in b) (drop (items_at (responses_at (words_in b))) b)) = rw g at q in
-    (rw (← e, h) a, (rw (← e, h) y, rw (← e, h) z))
+    (rw (← e) a, (rw (← e) y, rw (← e) z))

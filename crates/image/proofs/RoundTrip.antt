@@ -1,6 +1,6 @@
 -- Theorem: the image of a machine is sound, and reads as that machine. So two machines with one image are one machine.
 -- Document 01, 'The image': "the machine an image stands for is width, words, responses and job".
-use Prim.Native.Nat.{ℕ, zero, suc, ◌+◌, ◌^◌, ◌≤◌, ◌<◌}
+use Prim.Native.Nat.{ℕ, zero, suc, ◌^◌, ◌≤◌, ◌<◌}
 use mathlib.Core.Path.{◌≡◌, refl, sym, ap, ap₂, ◌∙◌}
 use mathlib.Core.Bool.{true, false, not, ◌||◌}
 use mathlib.Core.List.{List, ◌∷◌, ◌++◌, append_assoc, append-nil}
@@ -10,18 +10,17 @@ use lib.ListN.{length, take, drop, replicate, length-append}
 use lib.Pow.{pow_mono}
 use lib.Seq.{take_at, drop_at, drop-drop}
 use borrow.Author.Tests.{le-leb, eq-eqb, eqb-false}
-use Rattle.machine.specs.declared.Check.TheVariants.{Passed}
+use Rattle.std.specs.Prelude.{Ok}
 use Rattle.machine.specs.Refusals.{bad_size, bad_width}
 use Rattle.machine.proofs.Refusals as checks
 use Rattle.job_plans.specs.declared.Job.{Job}
-use Rattle.job_plans.specs.declared.Held.{Held}
+use Rattle.job_plans.specs.Fields.{Held}
 use Rattle.jobs.specs.Runs.{State}
-use Rattle.image_layout.specs.declared.Scanned.TheVariants.{Sound}
 use Rattle.image_layout.specs.Sizes.{count_size, width_size, word_size, response_size, most_jobs, items_at, width_at, words_at, responses_at, jobs_at}
 use Rattle.image_layout.specs.Format.{bytes, value, number_at, items, section, job_bytes, held_jobs, held_of, image_of, Under, AreResponses, JobsFit}
 use Rattle.image_layout.specs.Reading.{Field, scan, count_is, word_count, width_byte, word_field, response_field, job_count, job_field, width_in, words_in, jobs_in, records, jobs_of, fields_of, scanned, numbers, state_in}
-use Rattle.image_stores.specs.Stored.{machine_bytes}
 use Rattle.image_layout.proofs.Format.{under_more, length_bytes, length_items, value_bytes, held_jobs_lem, few_jobs}
+use Rattle.image_stores.specs.Stored.{machine_bytes}
 use Rattle.image.specs.Calls.{jobs_check, Stored}
 use Rattle.image.proofs.WriteCalls.{whole, length_machine, same_size, few_words}
 use Rattle.image.proofs.Sections.{passed, words_pass, responses_pass, jobs_pass, numbers_back, records_back, all_fit}
@@ -119,8 +118,8 @@ module _ (s : State) (p : Plain s) where
 count_right : (k x : ℕ) → x < 256 ^ k → eqb (value (bytes k x)) x ≡ true
 count_right k x h = eq-eqb (value (bytes k x)) x (value_bytes k x h)
 
-section_passed : (w at : ℕ) (os : List Job) → length os ≤ most_jobs → jobs_check w os ≡ Passed → JobsFit os
-    → scan (job_count ∷ replicate (length os) (job_field w)) at (section job_bytes os) ≡ Sound
+section_passed : (w at : ℕ) (os : List Job) → length os ≤ most_jobs → jobs_check w os ≡ Ok tt → JobsFit os
+    → scan (job_count ∷ replicate (length os) (job_field w)) at (section job_bytes os) ≡ Ok tt
 section_passed w at os h g c =
     passed job_count _ at (bytes count_size (length os)) (items job_bytes os) (length_bytes count_size (length os))
     (rw (count_few (length os) h) (le-leb (length os) most_jobs h))
@@ -134,7 +133,7 @@ module _ (s : State) (t : Stored s) where
   unfolding fields_of
   fields_back = rw (jobs_back s (plain s t), width_back s (plain s t), count_back s (plain s t))
 
-  pub image_sound : scanned (image_of s) ≡ Sound
+  pub image_sound : scanned (image_of s) ≡ Ok tt
   unfolding scanned
   image_sound =
       let p = plain s t in
@@ -168,7 +167,7 @@ image_back s t =
     (ap (λ (n : ℕ). numbers response_size n (drop (items_at (responses_at n)) (image_of s))) c ∙ responses_back s p t.responses)
     (held_back s p t.typed)
 
-pub round_trip : (s : State) → Stored s → (scanned (image_of s) ≡ Sound) × (state_in (image_of s) ≡ s)
+pub round_trip : (s : State) → Stored s → (scanned (image_of s) ≡ Ok tt) × (state_in (image_of s) ≡ s)
 round_trip s t = (image_sound s t, image_back s t)
 
 -- two machines with one image are one machine

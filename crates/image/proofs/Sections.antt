@@ -10,21 +10,19 @@ use lib.ListN.{length, take, drop, replicate, length-append, length-drop, take-a
 use lib.Pow.{pow_mono}
 use lib.Seq.{take_at, drop_at, drop-drop, length-take-le}
 use borrow.Author.Tests.{le-ltb, lt-leb, leb-false, ne_eqb, not-true}
+use Rattle.std.specs.Prelude.{Some, None, Ok, Err}
 use Rattle.laws.specs.Bits.{pick}
-use Rattle.machine.specs.declared.Found.TheVariants.{At, Nothing}
 use Rattle.machine.specs.Resolution.{lowest}
-use Rattle.machine.specs.declared.Check.TheVariants.{Passed}
 use Rattle.machine.specs.Refusals.{too_wide, passes}
 use Rattle.machine.proofs.Refusals.{else_passed}
 use Rattle.job_plans.specs.declared.Job.{Job}
 use Rattle.job_plans.specs.Places.{held_check}
-use Rattle.image_layout.specs.declared.Scanned.TheVariants.{Sound, Broken}
 use Rattle.image_layout.specs.Sizes.{word_size, response_size, record_size}
 use Rattle.image_layout.specs.Format.{bytes, value, number_at, items, job_bytes, job_of, Under, AreBytes, JobFits, JobsFit}
 use Rattle.image_layout.specs.Reading.{Field, scan, word_field, response_field, job_field, numbers, records}
 use Rattle.image_layout.proofs.Format.{under_take, under_drop, length_bytes, value_bytes, number_lt, number_cut, length_job, job_back, job_law, job_fits}
-use Rattle.image.specs.Calls.{jobs_check}
 use Rattle.image_parts.proofs.Parts.{next}
+use Rattle.image.specs.Calls.{jobs_check}
 
 -- ---- written: a field that is right is passed
 
@@ -54,7 +52,7 @@ responses_pass at (x ∷ rs) b fs =
     rw append_assoc (passed response_field _ at (bytes response_size x) (items (bytes response_size) rs ++ b) (length_bytes response_size x) refl
     ∙ responses_pass (at + response_size) rs b fs ∙ ap (λ (q : ℕ). scan fs q b) e)
 
-pub jobs_pass : (w at : ℕ) (os : List Job) → jobs_check w os ≡ Passed → JobsFit os → scan (replicate (length os) (job_field w)) at (items job_bytes os) ≡ Sound
+pub jobs_pass : (w at : ℕ) (os : List Job) → jobs_check w os ≡ Ok tt → JobsFit os → scan (replicate (length os) (job_field w)) at (items job_bytes os) ≡ Ok tt
 unfolding items scan
 jobs_pass w at [] g c = refl
 jobs_pass w at (o ∷ os) g c =
@@ -88,13 +86,13 @@ records_back (o ∷ os) c =
     )
 
 -- words that 3 has nothing against
-pub all_fit : (n k : ℕ) (ws : List ℕ) → lowest (too_wide n) k ws ≡ Nothing → Under (2 ^ n) ws
+pub all_fit : (n k : ℕ) (ws : List ℕ) → lowest (too_wide n) k ws ≡ None → Under (2 ^ n) ws
 unfolding lowest
 all_fit n k [] h = tt
 all_fit n k (w ∷ ws) h = go (too_wide n w) refl h (all_fit n (suc k) ws)
   where
-    go : (t : Bool) → too_wide n w ≡ t → pick t (At (record { 0 = k })) (lowest (too_wide n) (suc k) ws) ≡ Nothing
-        → (lowest (too_wide n) (suc k) ws ≡ Nothing → Under (2 ^ n) ws) → Under (2 ^ n) (w ∷ ws)
+    go : (t : Bool) → too_wide n w ≡ t → pick t (Some (record { 0 = k })) (lowest (too_wide n) (suc k) ws) ≡ None
+        → (lowest (too_wide n) (suc k) ws ≡ None → Under (2 ^ n) ws) → Under (2 ^ n) (w ∷ ws)
     go true e g r = absurd (let z : ◌≡◌ {A = ℕ} 0 1 = cc in omega arith)
     go false e g r = (leb-false (2 ^ n) w e, r g)
 
@@ -130,7 +128,7 @@ module _ (b : List ℕ) (u : AreBytes b) where
         ∙ ap₂ (λ (x y : List ℕ). x ++ y) (sym (job_law (take record_size (drop at b)) length_record record_bytes)) (drop-drop record_size at b)
 
 -- the words that fields of sound bytes say
-pub words_held : (w n : ℕ) (fs : List Field) (b : List ℕ) (at : ℕ) → at ≤ length b → scan (replicate n (word_field w) ++ fs) at (drop at b) ≡ Sound
+pub words_held : (w n : ℕ) (fs : List Field) (b : List ℕ) (at : ℕ) → at ≤ length b → scan (replicate n (word_field w) ++ fs) at (drop at b) ≡ Ok tt
     → Under (2 ^ w) (numbers word_size n (drop at b))
 unfolding numbers
 words_held w zero fs b at l h = tt
@@ -140,19 +138,19 @@ words_held w (suc n) fs b at l h =
       rw drop-drop (words_held w n fs b (at + word_size) s.held.fits s.rest),
     )
 
-pub none_wide : (n k : ℕ) (ws : List ℕ) → Under (2 ^ n) ws → lowest (too_wide n) k ws ≡ Nothing
+pub none_wide : (n k : ℕ) (ws : List ℕ) → Under (2 ^ n) ws → lowest (too_wide n) k ws ≡ None
 unfolding lowest
 none_wide n k [] u = refl
 none_wide n k (w ∷ ws) u = rw (lt-leb (2 ^ n) w u.0) (none_wide n (suc k) ws u.1)
 
 -- nothing after the last field
-pub nothing_left : (b : List ℕ) (at : ℕ) → scan [] at (drop at b) ≡ Sound → drop at b ≡ []
+pub nothing_left : (b : List ℕ) (at : ℕ) → scan [] at (drop at b) ≡ Ok tt → drop at b ≡ []
 unfolding scan
 nothing_left b at h = go (drop at b) h
   where
-    go : (s : List ℕ) → scan [] at s ≡ Sound → s ≡ []
+    go : (s : List ℕ) → scan [] at s ≡ Ok tt → s ≡ []
     go [] e = refl
     go (x ∷ s) e =
         let f : eqb (length (x ∷ s)) 0 ≡ false = ne_eqb (length (x ∷ s)) 0 (λ q. omega (arith, q)) in
-        let g : Broken at ≡ Sound = rw f at e in
+        let g : Err at ≡ Ok tt = rw f at e in
         absurd (let z : ◌≡◌ {A = ℕ} 0 1 = cc in omega arith)

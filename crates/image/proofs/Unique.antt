@@ -10,14 +10,12 @@ use lib.Dec.{leb}
 use lib.ListN.{length, take, drop, replicate}
 use lib.Seq.{drop-drop}
 use borrow.Author.Tests.{leb-true, eqb-true, eq-eqb, ne_eqb, le-ltb, not-true}
+use Rattle.std.specs.Prelude.{Ok, Err}
 use Rattle.laws.proofs.Bits.{and_left, and_right}
-use Rattle.machine.specs.declared.Check.{Check}
-use Rattle.machine.specs.declared.Check.TheVariants.{Passed, Refused}
-use Rattle.machine.specs.Refusals.{bad_size, bad_width, passes, machine_check}
+use Rattle.machine.specs.Refusals.{bad_size, bad_width, passes, machine_check, Check}
 use Rattle.job_plans.specs.declared.Job.{Job}
 use Rattle.job_plans.specs.Places.{held_check}
 use Rattle.jobs.specs.Runs.{State}
-use Rattle.image_layout.specs.declared.Scanned.TheVariants.{Sound}
 use Rattle.image_layout.specs.Sizes.{count_size, width_size, word_size, response_size, record_size, most_jobs, items_at, width_at, words_at, responses_at, jobs_at}
 use Rattle.image_layout.specs.Format.{bytes, number_at, items, job_bytes, job_of, held_jobs, held_of, image_of, Under, AreBytes, JobsFit}
 use Rattle.image_layout.specs.Reading.{scan, count_is, word_count, width_byte, word_field, response_field, job_count, job_field, width_in, words_in, jobs_in, records, jobs_of, fields_of, scanned, numbers, state_in}
@@ -39,9 +37,9 @@ pub record Parsed (b : List ℕ) : Type 0 where
   pub same : number_at count_size (responses_at (words_in b)) b ≡ words_in b
   pub jobs : jobs_in b ≤ most_jobs
   pub long : items_at (jobs_at (words_in b)) ≤ length b
-  pub rest : scan (replicate (jobs_in b) (job_field (width_in b))) (items_at (jobs_at (words_in b))) (drop (items_at (jobs_at (words_in b))) b) ≡ Sound
+  pub rest : scan (replicate (jobs_in b) (job_field (width_in b))) (items_at (jobs_at (words_in b))) (drop (items_at (jobs_at (words_in b))) b) ≡ Ok tt
 
-pub parsed : (b : List ℕ) → scanned b ≡ Sound → Parsed b
+pub parsed : (b : List ℕ) → scanned b ≡ Ok tt → Parsed b
 unfolding scanned fields_of
 parsed b h =
     let n = words_in b in
@@ -66,17 +64,17 @@ parsed b h =
 
 -- ---- the jobs' records
 
-passing : (c : Check) → passes c ≡ true → c ≡ Passed
-passing Passed h = refl
-passing (Refused r) h = cc
+passing : (c : Check) → passes c ≡ true → c ≡ Ok tt
+passing (Ok tt) h = refl
+passing (Err r) h = cc
 
 -- what is left is the bytes of these jobs, which pass 20 to 25
 record JobsLeft (w : ℕ) (s : List ℕ) (os : List Job) : Type 0 where
   bytes_of : s ≡ items job_bytes os
-  fit : jobs_check w os ≡ Passed
+  fit : jobs_check w os ≡ Ok tt
   typed : JobsFit os
 
-jobs_left : (b : List ℕ) → AreBytes b → (w v at : ℕ) → at ≤ length b → scan (replicate v (job_field w)) at (drop at b) ≡ Sound
+jobs_left : (b : List ℕ) → AreBytes b → (w v at : ℕ) → at ≤ length b → scan (replicate v (job_field w)) at (drop at b) ≡ Ok tt
     → JobsLeft w (drop at b) (records v (drop at b))
 unfolding items records
 jobs_left b u w zero at l h = record { bytes_of = nothing_left b at h; fit = refl; typed = tt }
@@ -107,7 +105,7 @@ joined : {b b1 b2 b3 b4 b5 b6 b7 : List ℕ} {n l3 l5 k l7 : ℕ} (w : ℕ) (s3 
     → bytes count_size 1 ++ (bytes width_size w ++ (bytes count_size l3 ++ (s3 ++ (bytes count_size l5 ++ (s5 ++ (bytes count_size l7 ++ s7)))))) ≡ b
 joined w s3 s5 s7 g0 g1 g2 g3 g4 g5 g6 g7 e f g = cc
 
-pub unique : (b : List ℕ) → AreBytes b → scanned b ≡ Sound → image_of (state_in b) ≡ b
+pub unique : (b : List ℕ) → AreBytes b → scanned b ≡ Ok tt → image_of (state_in b) ≡ b
 unfolding state_in
 unique b u h =
     let p = parsed b h in
@@ -126,7 +124,7 @@ unique b u h =
     (length_numbers word_size n (drop (items_at words_at) b)) (length_numbers response_size n (drop (items_at (responses_at n)) b)) (length_records (jobs_in b) (drop (items_at (jobs_at n)) b)))
 
 -- the bytes that read as a machine are its one image
-pub one_image : (b : List ℕ) (s : State) → AreBytes b → scanned b ≡ Sound → state_in b ≡ s → b ≡ image_of s
+pub one_image : (b : List ℕ) (s : State) → AreBytes b → scanned b ≡ Ok tt → state_in b ≡ s → b ≡ image_of s
 one_image b s u h e = sym (unique b u h) ∙ ap image_of e
 
 -- ---- and can be stored again
@@ -135,7 +133,7 @@ size_right : (n k : ℕ) → 1 ≤ n → n ≤ 1024 → k ≡ n → bad_size n k
 unfolding bad_size
 size_right n k h g e = rw (ne_eqb n 0 (λ z. omega (arith, z)), le-ltb 1024 n g, eq-eqb k n e)
 
-pub stored_again : (b : List ℕ) → AreBytes b → scanned b ≡ Sound → Stored (state_in b)
+pub stored_again : (b : List ℕ) → AreBytes b → scanned b ≡ Ok tt → Stored (state_in b)
 unfolding state_in machine_check
 stored_again b u h =
     let p = parsed b h in

@@ -5,23 +5,12 @@
 pub mod reading;
 pub mod writing;
 
-use job_plans::Held;
-use machine::Refusal;
-
-// What writing answers: the image's length.
-#[derive(Clone, Copy)]
-pub enum Wrote {
-    Length(usize),
-    Refused(Refusal),
-}
+use job_plans::Job;
 
 // What reading answers: the machine's width, how many words it has, and the held job.
 #[derive(Clone, Copy)]
-pub enum Read {
-    Machine {
-        width: u32,
-        words: usize,
-        held: Held,
-    },
-    Refused(Refusal),
+pub struct Loaded {
+    pub width: u32,
+    pub words: usize,
+    pub held: Option<Job>,
 }

@@ -4,66 +4,59 @@ ghost use Rattle.std.specs.Prelude.{◌≡◌, ◌+◌, ◌*◌, ◌≤◌, leng
 ghost use Rattle.std.proofs.lemmas.List.Edits.{sets};
 ghost use Rattle.image_layout.specs.Sizes.{word_size, response_size};
 ghost use Rattle.image_layout.specs.Reading.{numbers};
-ghost use Rattle.image.specs.Calls.{read_check, read_of, words_read, responses_read};
+ghost use Rattle.image.specs.Calls.{refuse_bytes, read_check, read_of, words_read, responses_read};
 
-use crate::Read;
-use image_layout::{COUNT_SIZE, RESPONSE_SIZE, Scanned, WORD_SIZE, WORDS_AT};
+use crate::Loaded;
+use image_layout::{COUNT_SIZE, WORD_SIZE, WORDS_AT};
 use image_parts::image_fields;
-use machine::{Check, Refusal, Response};
+use machine::{Refusal, Response};
 
-pub fn check_read(image: &[u8], words: usize, responses: usize) -> Check
+// 9: the place of the first field that is cut off or breaks a rule.
+fn refuse_bytes(found: Result<(), usize>) -> Result<(), Refusal>
+    ensures { result ≡ refuse_bytes found }
+{
+    found.map_err(|place| Refusal::Malformed(place))
+}
+
+#[tactic(auto, using(machine::proofs::Refusals::handed), unfolding(crate::specs::Calls::read_check))]
+pub fn check_read(image: &[u8], words: usize, responses: usize) -> Result<(), Refusal>
     ensures { result ≡ read_check image.now words responses }
 {
-    let found = image_fields::scan_image(image);
-    match found {
-        Scanned::Broken(at) => Check::Refused(Refusal::Malformed(at)),
-        Scanned::Sound => {
-            let n = image_fields::words_in(image);
-            machine::refuse(Refusal::NoRoom, (words < n) | (responses < n))
-        }
-    }
+    refuse_bytes(image_fields::scan_image(image))?;
+    let n = image_fields::words_in(image);
+    machine::refuse(Refusal::NoRoom, (words < n) | (responses < n))
 }
 
 fn fill_words(image: &[u8], at: usize, words: &mut [u64], n: usize)
     requires { (at + word_size * n ≤ length image.now) × (n ≤ length words.old) }
     ensures { words.new ≡ sets words.old 0 (numbers word_size n (drop at image.now)) }
 {
-    let mut i = 0;
-    while i < n {
+    for i in 0..n {
         words[i] = image_fields::number_at(image, at + WORD_SIZE * i, WORD_SIZE);
-        i += 1;
     }
 }
 
+// Each is one byte: as they are.
 fn fill_responses(image: &[u8], at: usize, responses: &mut [Response], n: usize)
     requires { (at + response_size * n ≤ length image.now) × (n ≤ length responses.old) }
     ensures { responses.new ≡ sets responses.old 0 (numbers response_size n (drop at image.now)) }
 {
-    let mut i = 0;
-    while i < n {
-        responses[i] = image_fields::response_at(image, at + RESPONSE_SIZE * i);
-        i += 1;
-    }
+    responses[..n].copy_from_slice(&image[at..at + n]);
 }
 
-pub fn read(image: &[u8], words: &mut [u64], responses: &mut [Response]) -> Read
+pub fn read(image: &[u8], words: &mut [u64], responses: &mut [Response]) -> Result<Loaded, Refusal>
     ensures value { result ≡ read_of image.now (length words.old) (length responses.old) }
     ensures words_after { words.new ≡ words_read image.now words.old responses.old }
     ensures responses_after { responses.new ≡ responses_read image.now words.old responses.old }
 {
-    let check = check_read(image, words.len(), responses.len());
-    match check {
-        Check::Refused(why) => Read::Refused(why),
-        Check::Passed => {
-            let n = image_fields::words_in(image);
-            let responses_at = image_layout::responses_at(n);
-            fill_words(image, WORDS_AT + COUNT_SIZE, words, n);
-            fill_responses(image, responses_at + COUNT_SIZE, responses, n);
-            Read::Machine {
-                width: image_fields::width_in(image),
-                words: n,
-                held: image_fields::held_at(image, image_layout::jobs_at(n)),
-            }
-        }
-    }
+    check_read(image, words.len(), responses.len())?;
+    let n = image_fields::words_in(image);
+    let responses_at = image_layout::responses_at(n);
+    fill_words(image, WORDS_AT + COUNT_SIZE, words, n);
+    fill_responses(image, responses_at + COUNT_SIZE, responses, n);
+    Ok(Loaded {
+        width: image_fields::width_in(image),
+        words: n,
+        held: image_fields::held_at(image, image_layout::jobs_at(n)),
+    })
 }

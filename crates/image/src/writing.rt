@@ -6,61 +6,53 @@ ghost use Rattle.image_layout.specs.Format.{held_jobs};
 ghost use Rattle.image.specs.Calls.{jobs_check, write_check, write_of, written};
 ghost use Rattle.jobs.specs.Runs.{state};
 
-use crate::Wrote;
 use image_stores::{put_held, put_machine};
-use job_plans::Held;
-use machine::{Check, Refusal, Response};
+use job_plans::Job;
+use machine::{Refusal, Response};
 
 // 20 to 25: each held job as after its start; none is fine.
-fn check_jobs(width: u32, held: Held) -> Check
+fn check_jobs(width: u32, held: Option<Job>) -> Result<(), Refusal>
     ensures { result ≡ jobs_check width (held_jobs held) }
 {
     match held {
-        Held::Nothing => Check::Passed,
-        Held::Holds(o) => job_places::check_held(width, o),
+        None => Ok(()),
+        Some(o) => job_places::check_held(width, o),
     }
 }
 
-fn count_jobs(held: Held) -> usize
+fn count_jobs(held: Option<Job>) -> usize
     ensures { (result ≡ length (held_jobs held)) × (result ≤ most_jobs) }
 {
-    match held {
-        Held::Nothing => 0,
-        Held::Holds(_) => 1,
-    }
+    usize::from(held.is_some())
 }
 
+#[tactic(auto, using(machine::proofs::Refusals::handed), unfolding(crate::specs::Calls::write_check))]
 pub fn check_write(
     words: &[u64],
     responses: &[Response],
     width: u32,
-    held: Held,
+    held: Option<Job>,
     room: usize,
-) -> Check
+) -> Result<(), Refusal>
     ensures { result ≡ write_check (state width words.now responses.now held) room }
 {
-    let check = machine::check_machine(words, responses, width);
-    match check {
-        Check::Refused(why) => Check::Refused(why),
-        Check::Passed => {
-            let size = image_layout::image_size(words.len(), count_jobs(held));
-            let fit = check_jobs(width, held);
-            let holds = machine::refuse(Refusal::NoRoom, room < size);
-            machine::in_order(fit, holds)
-        }
-    }
+    machine::check_machine(words, responses, width)?;
+    check_jobs(width, held)?;
+    let size = image_layout::image_size(words.len(), count_jobs(held));
+    machine::refuse(Refusal::NoRoom, room < size)
 }
 
-pub fn write(words: &[u64], responses: &[Response], width: u32, held: Held, out: &mut [u8]) -> Wrote
+pub fn write(
+    words: &[u64],
+    responses: &[Response],
+    width: u32,
+    held: Option<Job>,
+    out: &mut [u8],
+) -> Result<usize, Refusal>
     ensures value { result ≡ write_of (state width words.now responses.now held) (length out.old) }
     ensures out_after { out.new ≡ written (state width words.now responses.now held) out.old }
 {
-    let check = check_write(words, responses, width, held, out.len());
-    match check {
-        Check::Refused(why) => Wrote::Refused(why),
-        Check::Passed => {
-            let at = put_machine(out, words, responses, width);
-            Wrote::Length(put_held(out, at, held))
-        }
-    }
+    check_write(words, responses, width, held, out.len())?;
+    let at = put_machine(out, words, responses, width);
+    Ok(put_held(out, at, held))
 }
