@@ -1,6 +1,6 @@
 -- Chains of checks, what a call that passes them shows, and what then holds of each word.
 use Prim.Native.Nat.{ℕ, suc, ◌+◌, ◌^◌, ◌≤◌, ◌<◌}
-use mathlib.Core.Path.{◌≡◌, refl, ap, ap₂}
+use mathlib.Core.Path.{◌≡◌, refl, ap₂}
 use mathlib.Core.Bool.{Bool, true, false, ◌&&◌, ◌||◌}
 use mathlib.Core.List.{List, [], ◌∷◌}
 use lib.ListN.{length}
@@ -9,20 +9,15 @@ use Rattle.laws.specs.Bits.{digit}
 use Rattle.laws.specs.Lists.{all}
 use Rattle.laws.proofs.Bits.{and_left, and_right}
 use Rattle.machine.specs.declared.WordSlice.{WordSlice}
-use Rattle.std.specs.Prelude.{Result, Ok, Err, Option, Some, None, IsErrAnd}
-use Rattle.machine.specs.Refusals.{bad_size, bad_width, too_wide}
+use Rattle.std.specs.Prelude.{Ok, Err, Option, Some, None}
+use Rattle.machine.specs.Refusals.{bad_size, bad_width, too_wide, ◌else◌, refuse}
 use Rattle.machine.proofs.Refusals as machine
 use Rattle.array.specs.declared.Registers.{Registers}
 use Rattle.array.specs.declared.Refusal.{Refusal}
 use Rattle.array.specs.declared.Refusal.TheVariants.{Size, Width, NoCell, RegisterTooWide}
 use Rattle.array.specs.Words.{Word, each, how_many, lowest_word}
 use Rattle.array.specs.Operations.{Array, words_of}
-use Rattle.array.specs.Refusals.{bad_sizes, word_too_wide, first_too_wide, all_cells, bad_cells, bad_registers, ◌else◌, Check, refuse, refuse_word, call_check}
-
--- what `?` hands on is the very refusal
-pub handed : {A : Type 0} (d : Result A Refusal) (e : Refusal) → IsErrAnd d (λ y. y ≡ e) → d ≡ Err e
-handed (Ok x) e h = absurd h
-handed (Err y) e h = ap Err h
+use Rattle.array.specs.Refusals.{bad_sizes, word_too_wide, first_too_wide, all_cells, bad_cells, bad_registers, Check, refuse_word, call_check}
 
 -- ---- what a check that is passed shows
 

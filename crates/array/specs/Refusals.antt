@@ -1,11 +1,11 @@
 -- Document 02, request a: "Refusals: 1 to 4 as before, 12 for a cell coded as neither 0, 1 nor X, after 3"; what an operation answers and leaves.
 -- The conditions are quoted from document 01's table, which "as before" means; what they are held to here is (house), each with its decision in
 -- docs/DECISIONS.md.
-use Rattle.std.specs.Prelude.{ℕ, Bool, true, false, not, ◌||◌, List, length, Option, Some, None, Result, Ok, Err}
+use Rattle.std.specs.Prelude.{ℕ, Bool, not, ◌||◌, List, length, Option, Some, None, Result, Ok, Err}
 use Rattle.laws.specs.Bits.{bit, every}
 use Rattle.laws.specs.Lists.{all}
 use Rattle.machine.specs.declared.WordSlice.{WordSlice}
-use Rattle.machine.specs.Refusals.{bad_size, bad_width, too_wide}
+use Rattle.machine.specs.Refusals.{bad_size, bad_width, too_wide, ◌else◌, refuse, answer_by, change_by}
 use Rattle.array.specs.declared.Registers.{Registers}
 use Rattle.array.specs.declared.Operation.{Operation}
 use Rattle.array.specs.declared.Refusal.{Refusal}
@@ -47,15 +47,6 @@ bad_registers n r = too_wide n r.r1 || too_wide n r.r2 || too_wide n r.m
 abbrev pub Check : Type 0
 Check = Result (Unit {0}) Refusal
 
-infixr 20 ◌else◌
-abbrev pub ◌else◌ : Check → Check → Check
-(Ok tt) else c = c
-Err r else c = Err r
-
-abbrev pub refuse : Refusal → Bool → Check
-refuse r true = Err r
-refuse r false = Ok tt
-
 abbrev pub refuse_word : Option WordSlice → Check
 refuse_word (Some k) = Err (WordTooWide k)
 refuse_word None = Ok tt
@@ -73,18 +64,10 @@ call_check a r =
 
 -- ---- what an operation answers, and what stands in the array afterwards
 
-abbrev pub answer_by : Check → Answer → Result Answer Refusal
-answer_by (Ok tt) done = Ok done
-answer_by (Err r) done = Err r
-
 unfoldable pub answer_of : Array → Registers → Operation → Result Answer Refusal
 answer_of a r o = answer_by (call_check a r) (record { registers = registers_after a.width r o (words_of a); count = count_of a r o })
 
 -- "Nothing lent changes"
-abbrev pub change_by : Check → Array → Array → Array
-change_by (Ok tt) new old = new
-change_by (Err r) new old = old
-
 unfoldable pub after : Array → Registers → Operation → Array
 after a r o = change_by (call_check a r) (operated a r o) a
 

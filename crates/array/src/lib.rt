@@ -11,7 +11,7 @@ ghost use Rattle.array.specs.Operations.{array};
 ghost use Rattle.array.specs.Registers as registering;
 ghost use Rattle.array.specs.Refusals as refusals;
 
-use machine::{WordSlice, bad_width, too_wide};
+use machine::{WordSlice, bad_width, refuse, too_wide};
 
 // "three state (0, 1, X="don't care") associative storage cells"
 #[derive(Clone, Copy, PartialEq, Eq)]
@@ -325,14 +325,8 @@ fn bad_registers(width: u32, registers: Registers) -> bool
     too_wide(width, registers.r1) | too_wide(width, registers.r2) | too_wide(width, registers.m)
 }
 
-fn refuse(why: Refusal, when: bool) -> Result<(), Refusal>
-    ensures { result ≡ refusals.refuse why when }
-{
-    if when { Err(why) } else { Ok(()) }
-}
-
 // 12 and 4, where 1 to 3 are passed.
-#[tactic(auto, using(crate::proofs::Refusals::handed))]
+#[tactic(auto, using(machine::proofs::Refusals::handed))]
 fn check_rest(
     width: u32,
     registers: Registers,
@@ -349,7 +343,7 @@ fn check_rest(
 }
 
 // "1 to 4 as before, 12 for a cell coded as neither 0, 1 nor X, after 3"
-#[tactic(auto, using(crate::proofs::Refusals::handed), unfolding(crate::specs::Refusals::call_check))]
+#[tactic(auto, using(machine::proofs::Refusals::handed), unfolding(crate::specs::Refusals::call_check))]
 pub fn check_call(
     ones: &[u64],
     xs: &[u64],

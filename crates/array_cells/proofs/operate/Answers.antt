@@ -1,5 +1,6 @@
 use mathlib.Core.Path.{sym, ◌∙◌}
 use Rattle.array.specs.Operations.{array}
+use Rattle.machine.proofs.Refusals.{handed}
 use Rattle.array.proofs.Refusals as checks
 use Rattle.array.proofs.Calls as calls
 use Rattle.array_cells.proofs.operate.Goals as goal
@@ -7,7 +8,7 @@ use Rattle.array_cells.proofs.operate.Goals as goal
 pub returns-in_err-check_call : goal.returns-in_err-check_call
 returns-in_err-check_call c =
     let a = c.args in let q = calls.turned_down (array a.width a.ones.now a.xs.now a.selectors.now) a.registers a.operation _ (sym c.check_call.ensures ∙ c.in_err-check_call.was) in record {
-      value = checks.handed _ _ c.from_residual.ensures.1 ∙ q.0;
+      value = handed _ _ c.from_residual.ensures.1 ∙ q.0;
       ones_after = q.1.0;
       xs_after = q.1.1.0;
       selectors_after = q.1.1.1;

@@ -1,7 +1,8 @@
 -- Where the checks are passed, the operation's results; where not, the refusal, and nothing has changed.
 use mathlib.Core.Path.{sym, ◌∙◌}
 use Rattle.array.specs.Operations.{array}
-use Rattle.array.proofs.Refusals.{handed, sound, same_xs, same_selectors}
+use Rattle.machine.proofs.Refusals.{handed}
+use Rattle.array.proofs.Refusals.{sound, same_xs, same_selectors}
 use Rattle.array.proofs.Calls.{turned_down}
 use Rattle.array_wide.proofs.Sweeps.{searched, loaded, wrote}
 use Rattle.array_wide.proofs.Answers.{after_search, after_read, after_write}
