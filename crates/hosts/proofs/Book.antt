@@ -6,11 +6,10 @@ use mathlib.Core.Logic.{◌⊎◌, inl, inr, ⊎_elim}
 use mathlib.Core.List.{List, [], ◌∷◌, ◌++◌, append-nil}
 use native.Mathlib.Omega.{arith}
 use lib.ListN.{length, get_or, take, drop, length-append}
+use Rattle.std.specs.Prelude.{None, Ok}
 use Rattle.laws.proofs.Digits.{tri}
 use Rattle.machine.specs.declared.ResponseBit.{ResponseBit}
-use Rattle.machine.specs.declared.Check.TheVariants.{Passed}
 use Rattle.machine.specs.Machine.{Machine}
-use Rattle.resolver.specs.declared.Resolved.TheVariants as resolved
 use Rattle.rounds.specs.Round.{round_check, shown, show_check, show_of}
 use Rattle.rounds.specs.Handout.{responders, responder}
 use Rattle.rounds.proofs.Responders.{first_lowest}
@@ -70,7 +69,7 @@ take_all [] (suc n) h = refl
 take_all (k ∷ ks) zero h = absurd (omega arith)
 take_all (k ∷ ks) (suc n) h = ap (λ (js : List ℕ). k ∷ js) (take_all ks n (omega arith))
 
-module _ (x f : ResponseBit) (b : State) (fine : round_check x f b.machine ≡ Passed) (typed : Typed b) where
+module _ (x f : ResponseBit) (b : State) (fine : round_check x f b.machine ≡ Ok tt) (typed : Typed b) where
   -- ---- the book
 
   -- word k is in hand: shown last, and not stored; and, after a stop, to be shown again
@@ -208,7 +207,7 @@ module _ (x f : ResponseBit) (b : State) (fine : round_check x f b.machine ≡ P
 
   -- ---- the end
 
-  module _ {s : State} {image : List ℕ} {vs : List Given} {book : List Entry} (h : Hosted x f b s image ready vs book) (none : show_of x s.machine ≡ resolved.Nothing) where
+  module _ {s : State} {image : List ℕ} {vs : List Given} {book : List Entry} (h : Hosted x f b s image ready vs book) (none : show_of x s.machine ≡ Ok None) where
     all_answered : length vs ≡ length (responders x b.machine)
     all_answered = ends x f b fine typed h none
 

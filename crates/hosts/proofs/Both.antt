@@ -2,10 +2,10 @@
 use Prim.Native.Nat.{ℕ}
 use mathlib.Core.Path.{◌≡◌, sym, ap}
 use mathlib.Core.List.{List}
+use Rattle.std.specs.Prelude.{Ok}
 use Rattle.machine.specs.declared.ResponseBit.{ResponseBit}
-use Rattle.machine.specs.declared.Check.TheVariants.{Passed}
 use Rattle.machine.specs.Machine.{Machine}
-use Rattle.rounds.specs.Round.{Fit, round_check, answer_check, reply_of, after_answer}
+use Rattle.rounds.specs.Round.{Fit, round_check, reply_of, after_answer}
 use Rattle.rounds.proofs.Passing.{round_fits}
 use Rattle.rounds.proofs.Handout.{refused_nothing}
 use Rattle.jobs.specs.Runs.{State}
@@ -13,7 +13,7 @@ use Rattle.hosts.specs.Images.{Typed}
 use Rattle.hosts.specs.Rounds as events
 use Rattle.hosts.specs.Rounds.{Beside, Given, Phase, Entry, Own, Hosted, Both}
 use Rattle.hosts.proofs.Elsewhere.{answer_spares}
-use Rattle.hosts.proofs.Standing.{refused_by, standing}
+use Rattle.hosts.proofs.Standing.{standing}
 
 -- a call of a round over Y and G, seen by a round over X and F
 beside : (x f y g : ResponseBit) → Fit x f → Beside y g x → Beside y g f → {b s t : State} {image : List ℕ} {phase turn next : Phase} {vs us : List Given} {book log new : List Entry}
@@ -24,10 +24,10 @@ beside x f y g fit p q h (events.asks e) = h
 beside x f y g fit p q h (events.answers {s} k v e) = events.others h (events.answers_word y g k v e) (answer_spares x f fit y g p q s.machine k v e)
 beside x f y g fit p q {b} {image = image} {phase = phase} {vs = vs} {book = book} h (events.refused {s} {r = r} k v e) =
     let d : record { machine = after_answer y g k v s.machine; held = s.held } ≡ s =
-    ap (λ (z : Machine). record { machine = z; held = s.held }) (refused_nothing y g k v s.machine r (refused_by (answer_check y g k s.machine) r e)) in
+    ap (λ (z : Machine). record { machine = z; held = s.held }) (refused_nothing y g k v s.machine r e) in
     rw d h
 
-module _ (x f y g : ResponseBit) (b c : State) (fine : round_check x f b.machine ≡ Passed) (also : round_check y g c.machine ≡ Passed)
+module _ (x f y g : ResponseBit) (b c : State) (fine : round_check x f b.machine ≡ Ok tt) (also : round_check y g c.machine ≡ Ok tt)
     (p : Beside y g x) (q : Beside y g f) where
   pub first_alone : {s : State} {image : List ℕ} {phase turn : Phase} {vs us : List Given} {book log : List Entry}
       → Both x f y g b c s image phase vs book turn us log → Hosted x f b s image phase vs book

@@ -6,9 +6,9 @@ use mathlib.Core.List.{List, [], ◌∷◌}
 use native.Mathlib.Omega.{arith}
 use lib.ListN.{length, get_or, take, drop}
 use borrow.Author.Tests.{eqb-true, eq-eqb}
+use Rattle.std.specs.Prelude.{Some, None}
 use Rattle.laws.specs.Bits.{bit, pick, digit}
 use Rattle.machine.specs.declared.ResponseBit.{ResponseBit}
-use Rattle.machine.specs.declared.Found.TheVariants.{At, Nothing}
 use Rattle.machine.specs.Machine.{Machine}
 use Rattle.rounds.specs.Round.{has}
 use Rattle.rounds.specs.Handout.{numbers_with, responders, responder, response, first_of}
@@ -84,17 +84,17 @@ responder_is x m k r =
 
 -- ---- the first of what is left
 
-pub first_left : (ks : List ℕ) (i : ℕ) → i < length ks → first_of (drop i ks) ≡ At (record { 0 = get_or ks i 0 })
+pub first_left : (ks : List ℕ) (i : ℕ) → i < length ks → first_of (drop i ks) ≡ Some (record { 0 = get_or ks i 0 })
 first_left [] i h = absurd (omega arith)
 first_left (k ∷ ks) zero h = refl
 first_left (k ∷ ks) (suc i) h = first_left ks i (omega arith)
 
-pub none_left : (ks : List ℕ) (i : ℕ) → first_of (drop i ks) ≡ Nothing → length ks ≤ i
+pub none_left : (ks : List ℕ) (i : ℕ) → first_of (drop i ks) ≡ None → length ks ≤ i
 none_left [] i h = omega arith
 none_left (k ∷ ks) zero h = let z : ◌≡◌ {A = ℕ} 0 1 = cc in absurd (omega arith)
 none_left (k ∷ ks) (suc i) h = let p = none_left ks i h in omega (arith, p)
 
-pub left_none : (ks : List ℕ) (i : ℕ) → length ks ≤ i → first_of (drop i ks) ≡ Nothing
+pub left_none : (ks : List ℕ) (i : ℕ) → length ks ≤ i → first_of (drop i ks) ≡ None
 left_none [] zero h = refl
 left_none [] (suc i) h = refl
 left_none (k ∷ ks) zero h = absurd (omega arith)

@@ -4,21 +4,19 @@ use mathlib.Core.Path.{◌≡◌, refl, ap, ◌∙◌}
 use mathlib.Core.List.{List, [], ◌∷◌, map}
 use native.Mathlib.Omega.{arith}
 use lib.ListN.{length, set}
+use Rattle.std.specs.Prelude.{Ok, Err}
 use Rattle.machine.specs.declared.WordSlice.{WordSlice}
 use Rattle.machine.specs.declared.ResponseBit.{ResponseBit}
-use Rattle.machine.specs.declared.Check.{Check}
-use Rattle.machine.specs.declared.Check.TheVariants.{Passed, Refused}
 use Rattle.machine.specs.Machine.{Machine}
-use Rattle.machine.specs.Refusals.{change_by, machine_check, answer_by}
+use Rattle.machine.specs.Refusals.{change_by, machine_check, answer_by, Check}
 use Rattle.rounds.specs.declared.Verdict.{Verdict}
 use Rattle.rounds.specs.declared.Verdict.TheVariants.{Done, Faulty}
-use Rattle.rounds.specs.declared.Reply.TheVariants as reply
 use Rattle.rounds.specs.Round as round
 use Rattle.rounds.specs.Round.{Fit, put, round_check, answered_at, answer_check, reply_of, after_answer}
 use Rattle.rounds.specs.Handout.{response, responders, Answers, none_yet, one_more}
 use Rattle.rounds.proofs.Marks.{put_lt}
 use Rattle.rounds.proofs.Kept.{run}
-use Rattle.handout.specs.declared.Report.TheVariants as report
+use Rattle.handout.specs.declared.Report.{Report}
 use Rattle.handout.specs.Whole.{verdict_of, ended, after_ended, report_of, after_round}
 use Rattle.handout.proofs.Whole.{whole_round}
 use Rattle.image_layout.specs.Sizes.{response_size}
@@ -27,13 +25,9 @@ use Rattle.hosts.specs.Rounds.{Leaves, Beside}
 
 -- ---- checks taken apart
 
-pub taken_passed : (c : Check) → answer_by c reply.Refused reply.Taken ≡ reply.Taken → c ≡ Passed
-taken_passed Passed h = refl
-taken_passed (Refused r) h = cc
-
-ended_passed : (c : Check) (a b : ℕ) {d e : ℕ} → answer_by c report.Refused (report.Ended a b) ≡ report.Ended d e → c ≡ Passed
-ended_passed Passed a b h = refl
-ended_passed (Refused r) a b h = cc
+ended_passed : (c : Check) (a b : Report) → answer_by c a ≡ Ok b → c ≡ Ok tt
+ended_passed (Ok tt) a b h = refl
+ended_passed (Err r) a b h = cc
 
 -- ---- one response put
 
@@ -46,7 +40,7 @@ pub answered_fits : (x f : ResponseBit) (v : Verdict) (r : ℕ) → round.answer
 answered_fits x f Done r = put_lt x 0 r (omega arith)
 answered_fits x f Faulty r = put_lt f 1 (put x 0 r) (omega arith)
 
-pub answered_machine : (x f : ResponseBit) (m : Machine) (k : WordSlice) (v : Verdict) → answer_check x f k m ≡ Passed
+pub answered_machine : (x f : ResponseBit) (m : Machine) (k : WordSlice) (v : Verdict) → answer_check x f k m ≡ Ok tt
     → after_answer x f k v m ≡ answered_at x f k v m
 unfolding after_answer
 answered_machine x f m k v p = ap (λ (c : Check). change_by c (answered_at x f k v m) m) p
@@ -66,7 +60,7 @@ module _ {y g : ResponseBit} {m n : Machine} {us : List Verdict} (t : Answers y 
   pub answers_width : n.width ≡ m.width
   answers_width = (run t).width
 
-  pub answers_pass : machine_check m ≡ Passed → machine_check n ≡ Passed
+  pub answers_pass : machine_check m ≡ Ok tt → machine_check n ≡ Ok tt
   answers_pass h = like_machine m n (run t).width (run t).words (run t).as_many ∙ h
 
   pub answers_spare : (x f : ResponseBit) → Fit x f → Beside y g x → Beside y g f → Leaves x f m n
@@ -78,11 +72,11 @@ module _ {y g : ResponseBit} {m n : Machine} {us : List Verdict} (t : Answers y 
 
 -- ---- the two calls
 
-pub one_answer : (y g : ResponseBit) (k : WordSlice) (v : Verdict) (m : Machine) → reply_of y g k m ≡ reply.Taken → Answers y g m (v ∷ []) (after_answer y g k v m)
+pub one_answer : (y g : ResponseBit) (k : WordSlice) (v : Verdict) (m : Machine) → reply_of y g k m ≡ Ok tt → Answers y g m (v ∷ []) (after_answer y g k v m)
 unfolding reply_of
-one_answer y g k v m h = one_more k v none_yet (taken_passed (answer_check y g k m) h)
+one_answer y g k v m h = one_more k v none_yet h
 
-pub whole_answers : (y g : ResponseBit) (vs : List ℕ) (m : Machine) {d e : ℕ} → report_of y g vs m ≡ report.Ended d e
+pub whole_answers : (y g : ResponseBit) (vs : List ℕ) (m : Machine) {d e : ℕ} → report_of y g vs m ≡ Ok (record { done = d; faulty = e })
     → Answers y g m (map (verdict_of vs) (responders y m)) (after_round y g vs m)
 unfolding report_of after_round ended
 whole_answers y g vs m h =
@@ -92,8 +86,8 @@ whole_answers y g vs m h =
 
 -- an accepted answer, and a whole round, over two bits apart from X and F
 module _ (x f : ResponseBit) (fit : Fit x f) (y g : ResponseBit) (a : Beside y g x) (b : Beside y g f) (m : Machine) where
-  pub answer_spares : (k : WordSlice) (v : Verdict) → reply_of y g k m ≡ reply.Taken → Leaves x f m (after_answer y g k v m)
+  pub answer_spares : (k : WordSlice) (v : Verdict) → reply_of y g k m ≡ Ok tt → Leaves x f m (after_answer y g k v m)
   answer_spares k v h = answers_spare (one_answer y g k v m h) x f fit a b
 
-  pub round_spares : (vs : List ℕ) {done faulty : ℕ} → report_of y g vs m ≡ report.Ended done faulty → Leaves x f m (after_round y g vs m)
+  pub round_spares : (vs : List ℕ) {done faulty : ℕ} → report_of y g vs m ≡ Ok (record { done = done; faulty = faulty }) → Leaves x f m (after_round y g vs m)
   round_spares vs h = answers_spare (whole_answers y g vs m h) x f fit a b

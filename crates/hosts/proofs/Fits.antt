@@ -7,11 +7,11 @@ use native.Mathlib.Omega.{arith}
 use native.Mathlib.Nat.{mod-lt, mul-le-mul_right}
 use lib.Dec.{eqb}
 use lib.Pow.{pow_pos, pow-add}
+use Rattle.std.specs.Prelude.{Ok}
 use Rattle.laws.specs.Bits.{bit}
 use Rattle.laws.proofs.Bits.{number_lt}
 use Rattle.machine.specs.declared.Panel.{Panel}
 use Rattle.machine.specs.declared.Lines.{Lines}
-use Rattle.machine.specs.declared.Check.TheVariants.{Passed}
 use Rattle.machine.specs.Machine.{Machine, Syllable, syllables, selected, over}
 use Rattle.machine.specs.Pulse.{written, addend, sums, added, asks_flip, change, word_after, pulsed}
 use Rattle.machine.specs.Refusals.{machine_check}
@@ -54,6 +54,6 @@ word_fits n p l h k w r g =
     (number_lt n _ (λ i q. either_below (eqb (bit p.mor i) 1) (bit_below p.comp i) (bit_below w i)))
     (added_fits n p w h)
 
-pub pulsed_passes : (m : Machine) (p : Panel) (l : Lines) → machine_check m ≡ Passed → machine_check (pulsed m p l) ≡ Passed
+pub pulsed_passes : (m : Machine) (p : Panel) (l : Lines) → machine_check m ≡ Ok tt → machine_check (pulsed m p l) ≡ Ok tt
 pulsed_passes m p l h =
     let s = sound m h in passes (pulsed m p l) (sound_after m s p l (word_fits m.width p l (pos m s)))

@@ -9,25 +9,22 @@ use lib.Dec.{ltb}
 use lib.ListN.{length, take, drop}
 use lib.Seq.{sets, sets-eq, take_at}
 use borrow.Author.Tests.{ltb-false, le-ltb}
-use Rattle.machine.specs.declared.Check.{Check}
-use Rattle.machine.specs.declared.Check.TheVariants as check
+use Rattle.std.specs.Prelude.{Result, Ok, Err}
 use Rattle.machine.specs.declared.Refusal.TheVariants.{NoRoom}
 use Rattle.machine.specs.Machine.{machine}
-use Rattle.machine.specs.Refusals.{◌else◌, refuse, machine_check, answer_by, change_by}
+use Rattle.machine.specs.Refusals.{◌else◌, refuse, machine_check, answer_by, change_by, Check}
 use Rattle.machine.proofs.Refusals.{else_passed, not_refused, or_left, or_right}
-use Rattle.job_plans.specs.declared.Held.{Held}
+use Rattle.machine.specs.declared.Refusal.{Refusal}
+use Rattle.job_plans.specs.Fields.{Held}
 use Rattle.jobs.specs.Runs.{State}
-use Rattle.image.specs.declared.Wrote.{Wrote}
-use Rattle.image.specs.declared.Wrote.TheVariants as wrote
-use Rattle.image.specs.declared.Read.{Read}
-use Rattle.image.specs.declared.Read.TheVariants as read
 use Rattle.image_layout.specs.Format.{held_jobs, image_of}
 use Rattle.image_layout.specs.Reading.{words_in, scanned, state_in}
-use Rattle.image.specs.Calls.{jobs_check, write_check, write_of, written, refuse_bytes, read_check, read_of, words_read, responses_read}
 use Rattle.image_layout.specs.Sizes.{word_size, items_at, words_at}
 use Rattle.image_layout.proofs.Reading.{length_numbers}
+use Rattle.image.specs.Calls.{jobs_check, write_check, write_of, written, refuse_bytes, read_check, read_of, words_read, responses_read}
 use Rattle.image.proofs.RoundTrip.{plain, round_trip}
 use Rattle.image.specs.Calls.{Stored}
+use Rattle.image.specs.declared.Loaded.{Loaded}
 use Rattle.hosts.specs.Images.{Stores, Resumes}
 use Rattle.hosts.specs.Images.{Typed}
 
@@ -42,19 +39,19 @@ first_of_sets xs l n e h =
 abbrev pub job_check : ℕ → Held → Check
 job_check n h = jobs_check n (held_jobs h)
 
-abbrev wrote_by : Check → ℕ → Wrote
-wrote_by c n = answer_by c wrote.Refused (wrote.Length n)
+abbrev wrote_by : Check → ℕ → Result ℕ Refusal
+wrote_by c n = answer_by c n
 
-wrote_passed : (c : Check) (n k : ℕ) → wrote_by c n ≡ wrote.Length k → (c ≡ check.Passed) × (k ≡ n)
-wrote_passed check.Passed n k h = (refl, cc)
-wrote_passed (check.Refused r) n k h = (cc, cc)
+wrote_passed : (c : Check) (n k : ℕ) → wrote_by c n ≡ Ok k → (c ≡ Ok tt) × (k ≡ n)
+wrote_passed (Ok tt) n k h = (refl, cc)
+wrote_passed (Err r) n k h = (cc, cc)
 
-module _ (s : State) (room : ℕ) (h : write_check s room ≡ check.Passed) where
-  pub machine_passed : machine_check s.machine ≡ check.Passed
+module _ (s : State) (room : ℕ) (h : write_check s room ≡ Ok tt) where
+  pub machine_passed : machine_check s.machine ≡ Ok tt
   unfolding write_check
   machine_passed = (else_passed (machine_check s.machine) _ h).0
 
-  pub job_passed : job_check s.machine.width s.held ≡ check.Passed
+  pub job_passed : job_check s.machine.width s.held ≡ Ok tt
   unfolding write_check
   job_passed = (else_passed (job_check s.machine.width s.held) _ (else_passed (machine_check s.machine) _ h).1).0
 
@@ -79,7 +76,7 @@ stored_image {output} {s} {image} t w =
 pub can_store : (s : State) → Stored s → (output : List ℕ) → length (image_of s) ≤ length output → Stores output s (image_of s)
 unfolding write_of written write_check
 can_store s t output h =
-    let c : write_check s (length output) ≡ check.Passed = rw (t.machine, t.jobs, le-ltb (length output) (length (image_of s)) h) in
+    let c : write_check s (length output) ≡ Ok tt = rw (t.machine, t.jobs, le-ltb (length output) (length (image_of s)) h) in
     record {
       size = length (image_of s);
       accepted = ap (λ (c : Check). wrote_by c (length (image_of s))) c;
@@ -90,25 +87,27 @@ can_store s t output h =
 
 -- ---- resuming
 
-abbrev read_by : Check → State → Read
-read_by c s = answer_by c read.Refused (read.Machine s.machine.width (length s.machine.words) s.held)
+abbrev read_by : Check → State → Result Loaded Refusal
+read_by c s = answer_by c (record { width = s.machine.width; words = length s.machine.words; held = s.held })
 
 record Answered (s : State) (w n : ℕ) (h : Held) : Type 0 where
   pub width : w ≡ s.machine.width
   pub size : n ≡ length s.machine.words
   pub held : h ≡ s.held
 
-read_passed : (c : Check) (s : State) {w n : ℕ} {h : Held} → read_by c s ≡ read.Machine w n h → (c ≡ check.Passed) × Answered s w n h
-read_passed check.Passed s e = (refl, record { width = cc; size = cc; held = cc })
-read_passed (check.Refused r) s e = (cc, record { width = cc; size = cc; held = cc })
+read_passed : (c : Check) (s : State) {w n : ℕ} {h : Held} → read_by c s ≡ Ok (record { width = w; words = n; held = h }) → (c ≡ Ok tt) × Answered s w n h
+read_passed (Ok tt) s {w} {n} {h} e =
+    let q : ◌≡◌ {A = Loaded} (record { width = w; words = n; held = h }) (record { width = s.machine.width; words = length s.machine.words; held = s.held }) = cc in
+    (refl, record { width = ap (λ (l : Loaded). l.width) q; size = ap (λ (l : Loaded). l.words) q; held = ap (λ (l : Loaded). l.held) q })
+read_passed (Err r) s e = (cc, record { width = cc; size = cc; held = cc })
 
-long_enough : (c : Check) (n words responses : ℕ) → (c else refuse NoRoom (ltb words n || ltb responses n)) ≡ check.Passed → (n ≤ words) × (n ≤ responses)
+long_enough : (c : Check) (n words responses : ℕ) → (c else refuse NoRoom (ltb words n || ltb responses n)) ≡ Ok tt → (n ≤ words) × (n ≤ responses)
 long_enough c n words responses h =
     let t = not_refused NoRoom _ (else_passed c _ h).1 in
     (ltb-false words n (or_left (ltb words n) (ltb responses n) t), ltb-false responses n (or_right (ltb words n) (ltb responses n) t))
 
 -- the machine that stands in the destinations, where reading was accepted
-landed : (s : State) (words responses : List ℕ) (c : Check) (w n : ℕ) (h : Held) → c ≡ check.Passed → Answered s w n h
+landed : (s : State) (words responses : List ℕ) (c : Check) (w n : ℕ) (h : Held) → c ≡ Ok tt → Answered s w n h
     → length s.machine.responses ≡ length s.machine.words → length s.machine.words ≤ length words → length s.machine.words ≤ length responses
     → record {
       machine = machine w (take n (change_by c (sets words 0 s.machine.words) words)) (take n (change_by c (sets responses 0 s.machine.responses) responses));
@@ -156,7 +155,7 @@ module _ (s : State) (t : Stored s) where
   can_resume words responses h g =
       let n = length s.machine.words in
       let c = read_check (image_of s) (length words) (length responses) in
-      let p : c ≡ check.Passed = rw ((round_trip s t).0, count_in, le-ltb (length words) n h, le-ltb (length responses) n g) in
+      let p : c ≡ Ok tt = rw ((round_trip s t).0, count_in, le-ltb (length words) n h, le-ltb (length responses) n g) in
       record {
         width = s.machine.width;
         size = n;

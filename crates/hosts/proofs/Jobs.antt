@@ -6,20 +6,17 @@ use mathlib.Core.Logic.{⊎_elim}
 use mathlib.Core.List.{List, [], ◌∷◌}
 use native.Mathlib.Omega.{arith}
 use lib.ListN.{length}
+use Rattle.std.specs.Prelude.{Some, None, Ok}
 use Rattle.laws.proofs.Digits.{tri}
-use Rattle.machine.specs.declared.Check.{Check}
-use Rattle.machine.specs.declared.Check.TheVariants as check
 use Rattle.machine.specs.Machine.{Machine}
-use Rattle.machine.specs.Refusals.{◌else◌, machine_check}
+use Rattle.machine.specs.Refusals.{◌else◌, machine_check, Check}
 use Rattle.machine.proofs.Refusals.{sound, else_passed}
 use Rattle.job_plans.specs.declared.Job.{Job}
-use Rattle.job_plans.specs.declared.Held.{Held}
-use Rattle.job_plans.specs.declared.Held.TheVariants.{Nothing, Holds}
 use Rattle.job_plans.specs.declared.Command.{Command}
-use Rattle.jobs.specs.declared.Stepped.TheVariants as answer
 use Rattle.job_plans.specs.Places.{held_check, step_held_check, first}
-use Rattle.jobs.specs.Calls.{step_check, step_of}
+use Rattle.job_plans.specs.Fields.{Held}
 use Rattle.job_tally.specs.Totals.{pulses}
+use Rattle.jobs.specs.Calls.{step_check, step_of}
 use Rattle.jobs.specs.Runs.{State, stepped, steps}
 use Rattle.ends.specs.Ends.{Accepted, begun, Gives, command_at, ended}
 use Rattle.ends.proofs.Steps.{left, given_passed, held_given, steps_on, steps_last}
@@ -77,15 +74,15 @@ kept_all (stops.stored {k} {given} {s} {images} {image = image} w h) n = let c =
 kept_all (stops.resumed {i = i} w p r) n = let c = kept_all w n.1 in record { all = c.kept i p ∙ n.0; kept = c.kept }
 
 -- the one job that is held
-pub alone_passed : (c : Check) → c ≡ check.Passed → (c else check.Passed) ≡ check.Passed
+pub alone_passed : (c : Check) → c ≡ Ok tt → (c else (Ok tt)) ≡ Ok tt
 alone_passed c h = rw h
 
 -- a machine and a job that a step does not turn down can be stored
-fit_to_store : (n : ℕ) (h : Held) → step_held_check n h ≡ check.Passed → job_check n h ≡ check.Passed
-fit_to_store n Nothing e = refl
-fit_to_store n (Holds o) e = alone_passed (held_check n o) e
+fit_to_store : (n : ℕ) (h : Held) → step_held_check n h ≡ Ok tt → job_check n h ≡ Ok tt
+fit_to_store n None e = refl
+fit_to_store n (Some o) e = alone_passed (held_check n o) e
 
-passed_stored : (s : State) → Typed s → step_check s.machine s.held ≡ check.Passed → Stored s
+passed_stored : (s : State) → Typed s → step_check s.machine s.held ≡ Ok tt → Stored s
 unfolding step_check
 passed_stored s t h =
     let p = else_passed (machine_check s.machine) (step_held_check s.machine.width s.held) h in
@@ -96,7 +93,7 @@ passed_stored s t h =
       typed = t.job;
     }
 
-module _ (m : Machine) (o : Job) (accepted : Accepted m o) (typed : Typed (record { machine = m; held = Holds o })) where
+module _ (m : Machine) (o : Job) (accepted : Accepted m o) (typed : Typed (record { machine = m; held = Some o })) where
   begun_typed : Typed (begun m o)
   begun_typed = record { responses = typed.responses; job = first_fits o typed.job.0 }
 
@@ -146,7 +143,7 @@ module _ (m : Machine) (o : Job) (accepted : Accepted m o) (typed : Typed (recor
 
   -- a step that is accepted is one of the stated pulses
   one_more : (k : ℕ) (s : State) (images : List Kept) {c : Command} {n : ℕ} {h : Held} → Stands k s images
-      → step_of s.machine s.held ≡ answer.Gave c n h → Stands (suc k) (stepped s) images
+      → step_of s.machine s.held ≡ Ok (record { command = c; count = n; held = h }) → Stands (suc k) (stepped s) images
   one_more k s images w g = record {
     few = ⊎_elim (λ l. omega arith) (⊎_elim over (λ l. absurd (omega (arith, w.few)))) (tri k (pulses m (first o)));
     is = ap stepped w.is ∙ sym (steps_last k (begun m o));
@@ -191,7 +188,7 @@ module _ (m : Machine) (o : Job) (accepted : Accepted m o) (typed : Typed (recor
 
   pub one_stop : (k more : ℕ) → k + more ≡ pulses m (first o) → {output words responses image : List ℕ} {t : State}
       → Stores output (standing k) image → Resumes words responses image t
-      → ((j : ℕ) → j < more → (steps j t).held ≡ Nothing → ⊥) × (steps more t ≡ record { machine = ended m o; held = Nothing })
+      → ((j : ℕ) → j < more → (steps j t).held ≡ None → ⊥) × (steps more t ≡ record { machine = ended m o; held = None })
   one_stop k more e {t = t} w r =
       let same : t ≡ standing k = stored_then_resumed (steps_typed k (begun m o) begun_typed) w r in
       let on : (j : ℕ) → steps j t ≡ standing (k + j) = λ j. ap (steps j) same ∙ sym (steps_on k j (begun m o)) in
@@ -212,7 +209,7 @@ module _ (m : Machine) (o : Job) (accepted : Accepted m o) (typed : Typed (recor
     never_more = (stands worked).few
 
     -- the end comes after the stated number of pulses, and is the end without stops
-    pub same_end : s.held ≡ Nothing → (k ≡ pulses m (first o)) × (s.machine ≡ ended m o)
+    pub same_end : s.held ≡ None → (k ≡ pulses m (first o)) × (s.machine ≡ ended m o)
     same_end e =
         let w = stands worked in
         let c : k ≡ pulses m (first o) =
@@ -221,10 +218,10 @@ module _ (m : Machine) (o : Job) (accepted : Accepted m o) (typed : Typed (recor
         (c, ap (λ (z : State). z.machine) w.is ∙ ap (λ (i : ℕ). (steps i (begun m o)).machine) c)
 
     -- the steps that were really given are no fewer, and as many if no resume lost one
-    pub no_fewer : s.held ≡ Nothing → pulses m (first o) ≤ given
+    pub no_fewer : s.held ≡ None → pulses m (first o) ≤ given
     no_fewer e = omega (arith, (counted worked).fewer, (same_end e).0)
 
-    pub same_total : NothingLost worked → s.held ≡ Nothing → given ≡ pulses m (first o)
+    pub same_total : NothingLost worked → s.held ≡ None → given ≡ pulses m (first o)
     same_total n e = sym (kept_all worked n).all ∙ (same_end e).0
 
     -- before it a step is not refused
@@ -232,7 +229,7 @@ module _ (m : Machine) (o : Job) (accepted : Accepted m o) (typed : Typed (recor
     goes_on l = rw (stands worked).is ((course m o accepted).gives k l)
 
     -- the steps that are left lead to it
-    pub rest_ends : steps (pulses m (first o) - k) s ≡ record { machine = ended m o; held = Nothing }
+    pub rest_ends : steps (pulses m (first o) - k) s ≡ record { machine = ended m o; held = None }
     rest_ends =
         let w = stands worked in
         ap (steps (pulses m (first o) - k)) w.is

@@ -6,35 +6,32 @@ use native.Mathlib.Omega.{arith}
 use lib.Dec.{eqb, ltb}
 use lib.ListN.{length}
 use borrow.Author.Tests.{eqb-true}
+use Rattle.std.specs.Prelude.{Some, Result, Ok, Err}
 use Rattle.laws.specs.Bits.{bit, pick, digit}
 use Rattle.laws.proofs.Bits.{bit_none, number_bit, and_left}
 use Rattle.machine.specs.declared.Panel.{Panel}
 use Rattle.machine.specs.declared.Lines.{Lines}
 use Rattle.machine.specs.declared.ResponseBit.{ResponseBit}
-use Rattle.machine.specs.declared.Check.{Check}
-use Rattle.machine.specs.declared.Check.TheVariants.{Passed, Refused}
 use Rattle.machine.specs.Machine.{Machine, response_bits, selected}
 use Rattle.machine.specs.Search.{matches, marked}
 use Rattle.machine.specs.Pulse.{flipped, response_after, pulsed}
-use Rattle.machine.specs.Refusals.{machine_check, pulse_check, change_by, after, answer_by}
+use Rattle.machine.specs.Refusals.{machine_check, pulse_check, change_by, after, Check}
 use Rattle.machine.proofs.Refusals.{sound, clean, else_passed}
-use Rattle.job_plans.specs.declared.Held.{Held}
-use Rattle.job_plans.specs.declared.Held.TheVariants.{Holds}
-use Rattle.job_plans.specs.declared.Command.{Command}
-use Rattle.jobs.specs.declared.Stepped.{Stepped}
-use Rattle.jobs.specs.declared.Stepped.TheVariants as answer
-use Rattle.job_plans.specs.declared.Job.{Job}
-use Rattle.job_plans.specs.Fields.{Kind, greatest, smallest, scaledAdd, product, unknown, kind_of}
-use Rattle.job_plans.specs.Places.{at_place, in_table_for, in_table, held_check}
-use Rattle.job_plans.proofs.Fair.{fair}
-use Rattle.job_plans.specs.Commands.{opening, trial, second, command}
-use Rattle.jobs.specs.Calls.{step_check, gave, step_of, machine_after, after_step}
-use Rattle.jobs.specs.Runs.{State, stepped}
-use Rattle.ends.proofs.Machines.{passes, same, response_at, responses_length}
-use Rattle.ends.proofs.Starts.{accepted_is}
+use Rattle.machine.specs.declared.Refusal.{Refusal}
 use Rattle.rounds.specs.Handout.{response}
 use Rattle.rounds.proofs.Marks.{mask_else}
 use Rattle.rounds.specs.Round.{Fit}
+use Rattle.job_plans.specs.declared.Command.{Command}
+use Rattle.job_plans.specs.declared.Job.{Job}
+use Rattle.job_plans.specs.Fields.{Kind, greatest, smallest, scaledAdd, product, unknown, kind_of, Held}
+use Rattle.job_plans.specs.Places.{at_place, in_table_for, in_table, held_check}
+use Rattle.job_plans.proofs.Fair.{fair}
+use Rattle.job_plans.specs.Commands.{opening, trial, second, command}
+use Rattle.jobs.specs.Calls.{step_check, gave, step_of, machine_after, after_step, given_by}
+use Rattle.jobs.specs.Runs.{State, stepped}
+use Rattle.jobs.specs.declared.Stepped.{Stepped}
+use Rattle.ends.proofs.Machines.{passes, same, response_at, responses_length}
+use Rattle.ends.proofs.Starts.{accepted_is}
 use Rattle.hosts.specs.Rounds as events
 use Rattle.hosts.specs.Rounds.{Looks, Other, Leaves, ApartFor, Apart}
 use Rattle.hosts.specs.Images.{Typed}
@@ -45,14 +42,14 @@ use Rattle.hosts.proofs.Below.{bit_below, digit_below, flip_below, either_below}
 
 -- ---- the machine that each leaves
 
-pub accepted_pulse : (m : Machine) (p : Panel) (l : Lines) → pulse_check m p l ≡ Passed → after m p l ≡ pulsed m p l
+pub accepted_pulse : (m : Machine) (p : Panel) (l : Lines) → pulse_check m p l ≡ Ok tt → after m p l ≡ pulsed m p l
 unfolding after
 accepted_pulse m p l h = ap (λ (c : Check). change_by c (pulsed m p l) m) h
 
-pub accepted_step : (s : State) {k : Command} {c : ℕ} {h : Held} → step_of s.machine s.held ≡ answer.Gave k c h
+pub accepted_step : (s : State) {k : Command} {c : ℕ} {h : Held} → step_of s.machine s.held ≡ Ok (record { command = k; count = c; held = h })
     → (stepped s).machine ≡ pulsed s.machine k.panel k.lines
 unfolding stepped after_step
-accepted_step s e = ap (λ (a : Stepped). machine_after a s.machine) e
+accepted_step s e = ap (λ (a : Result Stepped Refusal). machine_after a s.machine) e
 
 -- a call that only looks changes nothing of the machine
 pub looks_nothing : {s t : State} → Looks s t → t.machine ≡ s.machine
@@ -72,7 +69,7 @@ looks_typed (events.starts {s} {q} o c a) t =
 looks_typed (events.writes output e) t = t
 looks_typed (events.loads before after) t = t
 
-pub other_passes : {s t : State} → Other s t → machine_check s.machine ≡ Passed → machine_check t.machine ≡ Passed
+pub other_passes : {s t : State} → Other s t → machine_check s.machine ≡ Ok tt → machine_check t.machine ≡ Ok tt
 other_passes (events.looks l) h = rw (looks_nothing l) h
 other_passes (events.pulses {s} p l a) h = rw (accepted_pulse s.machine p l a) (pulsed_passes s.machine p l h)
 other_passes (events.steps {s} {k} a) h = rw (accepted_step s a) (pulsed_passes s.machine k.panel k.lines h)
@@ -117,7 +114,7 @@ unfolding response_after
 quiet n p l k w r e g = rw (e, g)
 
 -- bit i of each response is as it was, if the pulse's rule says so
-module _ (m : Machine) (p : Panel) (l : Lines) (h : machine_check m ≡ Passed) where
+module _ (m : Machine) (p : Panel) (l : Lines) (h : machine_check m ≡ Ok tt) where
   kept_bit : (i : ℕ) → ((k w r : ℕ) → bit (response_after m.width p l k w r) i ≡ bit r i)
       → (k : ℕ) → k < length m.responses → bit (response (pulsed m p l) k) i ≡ bit (response m k) i
   kept_bit i f k g =
@@ -138,8 +135,8 @@ module _ (m : Machine) (p : Panel) (l : Lines) (h : machine_check m ≡ Passed) 
       kept_by_rule x f (λ k w r. ap (λ (z : ℕ). bit z x.0) (quiet m.width p l k w r a b))
       (λ k w r. ap (λ (z : ℕ). bit z f.0) (quiet m.width p l k w r a b))
 
-module _ (x f : ResponseBit) (m : Machine) (p : Panel) (l : Lines) (accepted : pulse_check m p l ≡ Passed) where
-  machine_fine : machine_check m ≡ Passed
+module _ (x f : ResponseBit) (m : Machine) (p : Panel) (l : Lines) (accepted : pulse_check m p l ≡ Ok tt) where
+  machine_fine : machine_check m ≡ Ok tt
   machine_fine = passes m (clean m p l accepted).sound
 
   -- an accepted pulse whose target has neither bit, or that raises neither search nor complement
@@ -204,7 +201,7 @@ module _ (o : Job) (b : ResponseBit) where
       go unknown t h true e = absurd h
 
 -- an accepted step of a job that works on neither bit
-step_command : (m : Machine) (o : Job) (x f : ResponseBit) → Fit x f → step_check m (Holds o) ≡ Passed → Apart o x → Apart o f
+step_command : (m : Machine) (o : Job) (x f : ResponseBit) → Fit x f → step_check m (Some o) ≡ Ok tt → Apart o x → Apart o f
     → Leaves x f m (pulsed m (command o).panel (command o).lines)
 unfolding step_check in_table
 step_command m o x f fit h a b =
@@ -212,12 +209,12 @@ step_command m o x f fit h a b =
     let t : in_table o ≡ true = (fair m.width o p.1).place in
     spared m (command o).panel (command o).lines p.0 x f fit (command_spares o x t a) (command_spares o f t b)
 
-pub step_spares : (x f : ResponseBit) → Fit x f → (s : State) (o : Job) → s.held ≡ Holds o → Apart o x → Apart o f → {k : Command} {c : ℕ} {h : Held}
-    → step_of s.machine s.held ≡ answer.Gave k c h → Leaves x f s.machine (stepped s).machine
+pub step_spares : (x f : ResponseBit) → Fit x f → (s : State) (o : Job) → s.held ≡ Some o → Apart o x → Apart o f → {k : Command} {c : ℕ} {h : Held}
+    → step_of s.machine s.held ≡ Ok (record { command = k; count = c; held = h }) → Leaves x f s.machine (stepped s).machine
 unfolding stepped after_step step_of
-step_spares x f fit s o e a b {k} {c} {h} g = rw e (go (step_check s.machine (Holds o)) refl (ap (λ (h : Held). answer_by (step_check s.machine h) answer.Refused (gave s.machine h)) (sym e) ∙ g))
+step_spares x f fit s o e a b {k} {c} {h} g = rw e (go (step_check s.machine (Some o)) refl (ap (λ (h : Held). given_by (step_check s.machine h) (gave s.machine h)) (sym e) ∙ g))
   where
-    go : (d : Check) → step_check s.machine (Holds o) ≡ d → answer_by d answer.Refused (gave s.machine (Holds o)) ≡ answer.Gave k c h
-        → Leaves x f s.machine (machine_after (answer_by d answer.Refused (gave s.machine (Holds o))) s.machine)
-    go Passed q r = step_command s.machine o x f fit q a b
-    go (Refused w) q r = all_left x f s.machine
+    go : (d : Check) → step_check s.machine (Some o) ≡ d → given_by d (gave s.machine (Some o)) ≡ Ok (record { command = k; count = c; held = h })
+        → Leaves x f s.machine (machine_after (given_by d (gave s.machine (Some o))) s.machine)
+    go (Ok tt) q r = step_command s.machine o x f fit q a b
+    go (Err w) q r = all_left x f s.machine

@@ -1,33 +1,27 @@
 -- A round over stops: the next responder is shown, and its answer taken; the round ends after as many answers as there were responders, and never
 -- sticks. Document 01, 'The hand-out round'.
-use Prim.Native.Nat.{ℕ, ◌+◌, ◌≤◌, ◌<◌}
+use Prim.Native.Nat.{ℕ, ◌≤◌, ◌<◌}
 use mathlib.Core.Path.{◌≡◌, refl, sym, ap, ap₂, ◌∙◌}
 use mathlib.Core.List.{List, [], ◌++◌, append-nil}
 use native.Mathlib.Omega.{arith}
-use borrow.Author.Tests.{lt-leb}
 use lib.ListN.{length, get_or, drop, length-map}
+use borrow.Author.Tests.{lt-leb}
+use Rattle.std.specs.Prelude.{Some, None, Ok}
 use Rattle.laws.specs.Bits.{bit}
 use Rattle.machine.specs.declared.WordSlice.{WordSlice}
 use Rattle.machine.specs.declared.ResponseBit.{ResponseBit}
-use Rattle.machine.specs.declared.Found.TheVariants as found
-use Rattle.machine.specs.declared.Check.{Check}
-use Rattle.machine.specs.declared.Found.{Found}
-use Rattle.machine.specs.declared.Check.TheVariants.{Passed}
 use Rattle.machine.proofs.Refusals.{sound}
-use Rattle.ends.proofs.Machines.{same}
-use Rattle.machine.specs.Machine.{machine, response_bits}
+use Rattle.machine.specs.Machine.{response_bits}
 use Rattle.machine.specs.Refusals.{answer_by}
-use Rattle.resolver.specs.declared.Resolved.TheVariants as resolved
-use Rattle.resolver.specs.Answers.{as_resolved}
 use Rattle.rounds.specs.declared.Verdict.TheVariants.{Done, Faulty}
-use Rattle.rounds.specs.declared.Reply.TheVariants as reply
-use Rattle.rounds.specs.Round.{round_check, shown, show_check, show_of, answer_check, reply_of}
+use Rattle.rounds.specs.Round.{round_check, shown, show_check, show_of, reply_of}
 use Rattle.rounds.specs.Handout.{responders, responder, response, NotAmong, first_of}
 use Rattle.rounds.proofs.Passing.{round_parts, acceptable, accepted}
 use Rattle.rounds.specs.Round.{Fit}
 use Rattle.rounds.proofs.Responders.{first_of_rest}
 use Rattle.rounds.proofs.Handout.{HandedOut, handed_out}
 use Rattle.jobs.specs.Runs.{State}
+use Rattle.ends.proofs.Machines.{same}
 use Rattle.image_layout.specs.Format.{image_of}
 use Rattle.hosts.specs.Images.{Stores, Resumes}
 use Rattle.hosts.specs.Rounds.{Responder, lower, Given, verdicts_of, Phase, ready, showing, pending, Entry, Hosted}
@@ -35,13 +29,12 @@ use Rattle.hosts.proofs.Images.{can_store, can_resume}
 use Rattle.hosts.specs.Images.{Typed}
 use Rattle.hosts.proofs.Shadow.{shadow_responders, shadow_shown, shadow_fault}
 use Rattle.hosts.proofs.Counting.{responder_at, responder_is, first_left, none_left, left_none}
-use Rattle.hosts.proofs.Elsewhere.{taken_passed}
 use Rattle.hosts.proofs.Standing.{none_by, fit, shade, Kept, Standing, standing}
 
-pub one_word : (k j : WordSlice) → found.At k ≡ found.At j → k.0 ≡ j.0
+pub one_word : (k j : WordSlice) → Some k ≡ Some j → k.0 ≡ j.0
 one_word k j e = cc
 
-module _ (x f : ResponseBit) (b : State) (fine : round_check x f b.machine ≡ Passed) (typed : Typed b) where
+module _ (x f : ResponseBit) (b : State) (fine : round_check x f b.machine ≡ Ok tt) (typed : Typed b) where
   abbrev Stands : State → List ℕ → Phase → List Given → Type 0
   Stands s image phase vs = Standing x f b fine typed s image phase vs
 
@@ -49,7 +42,7 @@ module _ (x f : ResponseBit) (b : State) (fine : round_check x f b.machine ≡ P
   round_fit = fit x f b fine typed
 
   -- show is not turned down
-  show_accepted : {s : State} {image : List ℕ} {phase : Phase} {vs : List Given} → Stands s image phase vs → show_check x s.machine ≡ Passed
+  show_accepted : {s : State} {image : List ℕ} {phase : Phase} {vs : List Given} → Stands s image phase vs → show_check x s.machine ≡ Ok tt
   unfolding show_check
   show_accepted w = rw (w.passes, lt-leb response_bits x.0 round_fit.mark)
 
@@ -112,26 +105,26 @@ module _ (x f : ResponseBit) (b : State) (fine : round_check x f b.machine ≡ P
     to_show : shown x s.machine ≡ first_of (drop (length vs) (responders x b.machine))
     to_show = next_shown stands ∙ ap (λ (i : ℕ). first_of (drop i (responders x b.machine))) counted
 
-    pub is_next : (k : ℕ) → Responder x b.machine k → lower x b.machine k ≡ length vs → show_of x s.machine ≡ resolved.At (record { 0 = k })
+    pub is_next : (k : ℕ) → Responder x b.machine k → lower x b.machine k ≡ length vs → show_of x s.machine ≡ Ok (Some (record { 0 = k }))
     unfolding show_of
     is_next k r e =
         let p = responder_is x b.machine k r in
         let l : length vs < length (responders x b.machine) = omega (arith, p.0, e) in
         let i : responder x b.machine (length vs) ≡ k = ap (responder x b.machine) (sym e) ∙ p.1 in
-        ap₂ (λ (c : Check) (w : Found). answer_by c resolved.Refused (as_resolved w)) (show_accepted stands)
-        (to_show ∙ first_left (responders x b.machine) (length vs) l ∙ ap (λ (j : ℕ). found.At (record { 0 = j })) i)
+        ap₂ answer_by (show_accepted stands)
+        (to_show ∙ first_left (responders x b.machine) (length vs) l ∙ ap (λ (j : ℕ). Some (record { 0 = j })) i)
 
     -- the round ends after as many stored answers as there were responders, and not before
-    pub ends : show_of x s.machine ≡ resolved.Nothing → length vs ≡ length (responders x b.machine)
+    pub ends : show_of x s.machine ≡ Ok None → length vs ≡ length (responders x b.machine)
     unfolding show_of
     ends e =
         let n = none_left (responders x b.machine) (length vs) (sym to_show ∙ none_by (show_check x s.machine) (shown x s.machine) e) in
         let l = enough stands in
         omega (arith, n, l, counted)
 
-    pub over : length vs ≡ length (responders x b.machine) → show_of x s.machine ≡ resolved.Nothing
+    pub over : length vs ≡ length (responders x b.machine) → show_of x s.machine ≡ Ok None
     unfolding show_of
-    over e = ap₂ (λ (c : Check) (w : Found). answer_by c resolved.Refused (as_resolved w)) (show_accepted stands) (to_show ∙ left_none (responders x b.machine) (length vs) (omega (arith, e)))
+    over e = ap₂ answer_by (show_accepted stands) (to_show ∙ left_none (responders x b.machine) (length vs) (omega (arith, e)))
 
     -- F: of those answered, and stored
     pub faulty_has : (i : ℕ) → i < length vs → get_or (verdicts_of vs) i Done ≡ Faulty → bit (response s.machine (responder x b.machine i)) f.0 ≡ 1
@@ -154,32 +147,32 @@ module _ (x f : ResponseBit) (b : State) (fine : round_check x f b.machine ≡ P
 
   -- ---- never stuck
 
-  bits_fine : {s : State} {image : List ℕ} {phase : Phase} {vs : List Given} → Stands s image phase vs → round_check x f s.machine ≡ Passed
+  bits_fine : {s : State} {image : List ℕ} {phase : Phase} {vs : List Given} → Stands s image phase vs → round_check x f s.machine ≡ Ok tt
   unfolding round_check
   bits_fine w = rw w.passes (round_parts x f b.machine fine).1
 
   -- the word that is shown can be answered, either way
   pub answerable : {s : State} {image : List ℕ} {k : ℕ} {vs : List Given} {book : List Entry} → Hosted x f b s image (showing k) vs book
-      → reply_of x f (record { 0 = k }) s.machine ≡ reply.Taken
+      → reply_of x f (record { 0 = k }) s.machine ≡ Ok tt
   unfolding reply_of
   answerable {s} {image} {k} h =
       let w = standing x f b fine typed h in
-      ap (λ (c : Check). answer_by c reply.Refused reply.Taken) (acceptable x f (record { 0 = k }) s.machine (bits_fine w) (w.word k refl))
+      acceptable x f (record { 0 = k }) s.machine (bits_fine w) (w.word k refl)
 
   -- asked again, show gives that word again
   pub same_again : {s : State} {image : List ℕ} {k : ℕ} {vs : List Given} {book : List Entry} → Hosted x f b s image (showing k) vs book
-      → show_of x s.machine ≡ resolved.At (record { 0 = k })
+      → show_of x s.machine ≡ Ok (Some (record { 0 = k }))
   unfolding show_of
   same_again {k = k} h =
       let w = standing x f b fine typed h in
-      ap₂ (λ (c : Check) (d : Found). answer_by c resolved.Refused (as_resolved d)) (show_accepted w) (w.word k refl)
+      ap₂ answer_by (show_accepted w) (w.word k refl)
 
   -- and no other word's answer is taken
   pub taken_is_shown : {s : State} {image : List ℕ} {j : ℕ} {vs : List Given} {book : List Entry} → Hosted x f b s image (showing j) vs book
-      → (k : WordSlice) → reply_of x f k s.machine ≡ reply.Taken → k.0 ≡ j
+      → (k : WordSlice) → reply_of x f k s.machine ≡ Ok tt → k.0 ≡ j
   unfolding reply_of
   taken_is_shown {s} {image} {j} h k e =
-      let p = (accepted x f k s.machine (taken_passed (answer_check x f k s.machine) e)).word in
+      let p = (accepted x f k s.machine e).word in
       one_word k (record { 0 = j }) (sym p ∙ (standing x f b fine typed h).word j refl)
 
   -- what stands can be stored in any output that is long enough

@@ -8,17 +8,14 @@ use native.Mathlib.Omega.{arith}
 use lib.Dec.{eqb}
 use lib.ListN.{length, get_or, set, length-map, get_or-map}
 use borrow.Author.Tests.{eq-eqb, eqb-true}
+use Rattle.std.specs.Prelude.{Option, Some, Ok}
 use Rattle.laws.specs.Bits.{bit, pick, number}
 use Rattle.laws.proofs.Bits.{bit_none, number_fits, number_like, number_bit}
 use Rattle.machine.specs.declared.WordSlice.{WordSlice}
 use Rattle.machine.specs.declared.ResponseBit.{ResponseBit}
-use Rattle.machine.specs.declared.Found.{Found}
-use Rattle.machine.specs.declared.Found.TheVariants.{At}
-use Rattle.machine.specs.declared.Check.{Check}
-use Rattle.machine.specs.declared.Check.TheVariants.{Passed}
 use Rattle.machine.specs.Machine.{Machine, machine, response_bits}
 use Rattle.machine.specs.Resolution.{lowest}
-use Rattle.machine.specs.Refusals.{change_by}
+use Rattle.machine.specs.Refusals.{change_by, Check}
 use Rattle.rounds.specs.declared.Verdict.{Verdict}
 use Rattle.rounds.specs.declared.Verdict.TheVariants.{Done, Faulty}
 use Rattle.rounds.specs.Round.{has, shown, put, answered, answered_at, round_check, answer_check, after_answer}
@@ -112,7 +109,7 @@ module _ (x f : ResponseBit) (fit : Fit x f) where
   lowest_only : (k : ℕ) (rs : List ℕ) → lowest (has x) k (map (only x f) rs) ≡ lowest (has x) k rs
   unfolding lowest
   lowest_only k [] = refl
-  lowest_only k (r ∷ rs) = ap₂ (λ (t : Bool) (w : Found). pick t (At (record { 0 = k })) w) (only_has r) (lowest_only (suc k) rs)
+  lowest_only k (r ∷ rs) = ap₂ (λ (t : Bool) (w : Option WordSlice). pick t (Some (record { 0 = k })) w) (only_has r) (lowest_only (suc k) rs)
 
   set_only : (rs : List ℕ) (k v : ℕ) → map (only x f) (set rs k v) ≡ set (map (only x f) rs) k (only x f v)
   set_only [] k v = refl
@@ -154,9 +151,9 @@ module _ (x f : ResponseBit) (fit : Fit x f) where
     shadow_left m n l =
         ap (machine b.width b.words) (same_only m.responses n.responses l.count l.mark l.fault)
 
-    module _ (fine : round_check x f b ≡ Passed) (m : Machine) (size : length m.responses ≡ length b.responses) (k : WordSlice)
-        (taken : answer_check x f k m ≡ Passed) where
-      pub shadow_taken : answer_check x f k (shadow m) ≡ Passed
+    module _ (fine : round_check x f b ≡ Ok tt) (m : Machine) (size : length m.responses ≡ length b.responses) (k : WordSlice)
+        (taken : answer_check x f k m ≡ Ok tt) where
+      pub shadow_taken : answer_check x f k (shadow m) ≡ Ok tt
       shadow_taken =
           acceptable x f k (shadow m)
           (same_checks x f b.width b.words b.responses _ (length-map m.responses (only x f) ∙ size) ∙ fine)

@@ -6,22 +6,16 @@ use mathlib.Core.Path.{◌≡◌, refl, sym, ap, ◌∙◌}
 use mathlib.Core.List.{List, [], ◌∷◌, ◌++◌, append-nil}
 use native.Mathlib.Omega.{arith}
 use lib.ListN.{length, length-set}
+use Rattle.std.specs.Prelude.{Option, Some, None, Ok, Err}
 use Rattle.machine.specs.declared.WordSlice.{WordSlice}
 use Rattle.machine.specs.declared.ResponseBit.{ResponseBit}
-use Rattle.machine.specs.declared.Found.{Found}
-use Rattle.machine.specs.declared.Found.TheVariants as found
 use Rattle.machine.specs.declared.Refusal.{Refusal}
 use Rattle.machine.specs.declared.Refusal.TheVariants.{Size, Width}
-use Rattle.machine.specs.declared.Check.{Check}
-use Rattle.machine.specs.declared.Check.TheVariants.{Passed, Refused}
 use Rattle.machine.specs.Machine.{Machine, machine}
-use Rattle.machine.specs.Refusals.{bad_size, bad_width, too_wide, ◌else◌, refuse, refuse_word, machine_check, answer_by}
+use Rattle.machine.specs.Refusals.{bad_size, bad_width, too_wide, ◌else◌, refuse, refuse_word, machine_check, answer_by, Check}
 use Rattle.machine.specs.Resolution.{lowest}
-use Rattle.resolver.specs.declared.Resolved.TheVariants as resolved
-use Rattle.resolver.specs.Answers.{as_resolved}
 use Rattle.rounds.specs.declared.Verdict.{Verdict}
-use Rattle.rounds.specs.declared.Reply.TheVariants as reply
-use Rattle.rounds.specs.Round.{round_check, shown, show_check, show_of, answered_at, answer_check, reply_of, after_answer}
+use Rattle.rounds.specs.Round.{round_check, shown, show_check, show_of, answered_at, reply_of, after_answer}
 use Rattle.rounds.specs.Handout.{response, Answers, none_yet, one_more}
 use Rattle.rounds.proofs.Passing.{round_fits}
 use Rattle.rounds.specs.Round.{Fit}
@@ -35,25 +29,21 @@ use Rattle.hosts.specs.Rounds.{Other, Leaves, Given, verdicts_of, Phase, ready, 
 use Rattle.hosts.proofs.Images.{job_check, stored_image, resumed_machine}
 use Rattle.hosts.specs.Images.{Typed}
 use Rattle.hosts.proofs.Shadow.{shadow, shadow_shown, shadow_left, shadow_taken, shadow_after}
-use Rattle.hosts.proofs.Elsewhere.{taken_passed, set_responses, answered_fits, answered_machine}
+use Rattle.hosts.proofs.Elsewhere.{set_responses, answered_fits, answered_machine}
 use Rattle.hosts.proofs.Leaving.{other_passes, other_typed}
 use Rattle.hosts.proofs.Staying.{other_job}
 
 -- ---- checks taken apart
 
-pub refused_by : (c : Check) (r : Refusal) → answer_by c reply.Refused reply.Taken ≡ reply.Refused r → c ≡ Refused r
-refused_by Passed r h = cc
-refused_by (Refused w) r h = cc
+pub shown_by : (c : Check) (w : Option WordSlice) (k : WordSlice) → answer_by c w ≡ Ok (Some k) → (c ≡ Ok tt) × (w ≡ Some k)
+shown_by (Ok tt) (Some j) k h = (refl, cc)
+shown_by (Ok tt) None k h = (refl, cc)
+shown_by (Err r) w k h = (cc, cc)
 
-pub shown_by : (c : Check) (w : Found) (k : WordSlice) → answer_by c resolved.Refused (as_resolved w) ≡ resolved.At k → (c ≡ Passed) × (w ≡ found.At k)
-shown_by Passed (found.At j) k h = (refl, cc)
-shown_by Passed found.Nothing k h = (refl, cc)
-shown_by (Refused r) w k h = (cc, cc)
-
-pub none_by : (c : Check) (w : Found) → answer_by c resolved.Refused (as_resolved w) ≡ resolved.Nothing → w ≡ found.Nothing
-none_by Passed (found.At j) h = cc
-none_by Passed found.Nothing h = refl
-none_by (Refused r) w h = cc
+pub none_by : (c : Check) (w : Option WordSlice) → answer_by c w ≡ Ok None → w ≡ None
+none_by (Ok tt) (Some j) h = cc
+none_by (Ok tt) None h = refl
+none_by (Err r) w h = cc
 
 same_word : (k j : ℕ) → showing k ≡ showing j → k ≡ j
 same_word k j e = cc
@@ -70,7 +60,7 @@ unfolding machine_check
 same_machine n ws rs qs e =
     ap (λ (k : ℕ). refuse Size (bad_size (length ws) k) else refuse Width (bad_width n) else refuse_word (lowest (too_wide n) 0 ws)) e
 
-module _ (x f : ResponseBit) (b : State) (fine : round_check x f b.machine ≡ Passed) (typed : Typed b) where
+module _ (x f : ResponseBit) (b : State) (fine : round_check x f b.machine ≡ Ok tt) (typed : Typed b) where
   pub fit : Fit x f
   fit = round_fits x f b.machine fine
 
@@ -88,13 +78,13 @@ module _ (x f : ResponseBit) (b : State) (fine : round_check x f b.machine ≡ P
     pub trail : Answers x f (shade b.machine) (verdicts_of vs) (shade state.machine)
 
   pub record Standing (s : State) (image : List ℕ) (phase : Phase) (vs : List Given) : Type 0 where
-    pub passes : machine_check s.machine ≡ Passed
+    pub passes : machine_check s.machine ≡ Ok tt
     pub kinds : Typed s
-    pub job : job_check s.machine.width s.held ≡ Passed
+    pub job : job_check s.machine.width s.held ≡ Ok tt
     pub size : length s.machine.responses ≡ length b.machine.responses
     pub trail : Answers x f (shade b.machine) (verdicts_of (vs ++ pending phase)) (shade s.machine)
     pub kept : Kept image vs
-    pub word : (k : ℕ) → phase ≡ showing k → shown x s.machine ≡ found.At (record { 0 = k })
+    pub word : (k : ℕ) → phase ≡ showing k → shown x s.machine ≡ Some (record { 0 = k })
 
   opened : {output : List ℕ} (image : List ℕ) → Stores output b image → Standing b image ready []
   opened image w =
@@ -111,7 +101,7 @@ module _ (x f : ResponseBit) (b : State) (fine : round_check x f b.machine ≡ P
 
   -- a show where no answer waits to be stored
   show_word : (s : State) (image : List ℕ) (vs : List Given) (phase : Phase) → pending phase ≡ [] → (k : WordSlice) → Standing s image phase vs
-      → show_of x s.machine ≡ resolved.At k → Standing s image (showing k.0) vs
+      → show_of x s.machine ≡ Ok (Some k) → Standing s image (showing k.0) vs
   unfolding show_of
   show_word s image vs phase none k w h =
       let p = shown_by (show_check x s.machine) (shown x s.machine) k h in
@@ -122,20 +112,19 @@ module _ (x f : ResponseBit) (b : State) (fine : round_check x f b.machine ≡ P
         size = w.size;
         trail = rw none at w.trail;
         kept = w.kept;
-        word = λ j e. p.1 ∙ ap (λ (i : ℕ). found.At (record { 0 = i })) (same_word k.0 j e);
+        word = λ j e. p.1 ∙ ap (λ (i : ℕ). Some (record { 0 = i })) (same_word k.0 j e);
       }
 
   after_answer_lem : State → WordSlice → Verdict → State
   after_answer_lem s k v = record { machine = after_answer x f k v s.machine; held = s.held }
 
   answer_word : (s : State) (image : List ℕ) (j : ℕ) (vs : List Given) (k : WordSlice) (v : Verdict) → Standing s image (showing j) vs
-      → reply_of x f k s.machine ≡ reply.Taken → Standing (after_answer_lem s k v) image (answered (record { word = k.0; verdict = v })) vs
+      → reply_of x f k s.machine ≡ Ok tt → Standing (after_answer_lem s k v) image (answered (record { word = k.0; verdict = v })) vs
   unfolding reply_of after_answer_lem
   answer_word s image j vs k v w h =
       let m = s.machine in
-      let p = taken_passed (answer_check x f k m) h in
-      let e : after_answer x f k v m ≡ answered_at x f k v m = answered_machine x f m k v p in
-      let one = one_more k v w.trail (shadow_taken x f fit b.machine fine m w.size k p) in
+      let e : after_answer x f k v m ≡ answered_at x f k v m = answered_machine x f m k v h in
+      let one = one_more k v w.trail (shadow_taken x f fit b.machine fine m w.size k h) in
       record {
         passes = ap machine_check e ∙ same_machine m.width m.words m.responses _ (length-set m.responses k.0 _) ∙ w.passes;
         kinds = record {
@@ -144,18 +133,18 @@ module _ (x f : ResponseBit) (b : State) (fine : round_check x f b.machine ≡ P
         };
         job = rw e w.job;
         size = ap (λ (z : Machine). length z.responses) e ∙ length-set m.responses k.0 _ ∙ w.size;
-        trail = rw (shadow_after x f fit b.machine fine m w.size k p v, verdicts_one vs (record { word = k.0; verdict = v })) one;
+        trail = rw (shadow_after x f fit b.machine fine m w.size k h v, verdicts_one vs (record { word = k.0; verdict = v })) one;
         kept = w.kept;
         word = λ i q. absurd (let z : ◌≡◌ {A = ℕ} 0 1 = cc in omega arith);
       }
 
   -- nothing changes
   refuse_word_lem : (s : State) (image : List ℕ) (phase : Phase) (vs : List Given) (k : WordSlice) (v : Verdict) (r : Refusal) → Standing s image phase vs
-      → reply_of x f k s.machine ≡ reply.Refused r → Standing (after_answer_lem s k v) image phase vs
+      → reply_of x f k s.machine ≡ Err r → Standing (after_answer_lem s k v) image phase vs
   unfolding reply_of after_answer_lem
   refuse_word_lem s image phase vs k v r w h =
       let e : after_answer_lem s k v ≡ s =
-      ap (λ (z : Machine). record { machine = z; held = s.held }) (refused_nothing x f k v s.machine r (refused_by (answer_check x f k s.machine) r h)) in
+      ap (λ (z : Machine). record { machine = z; held = s.held }) (refused_nothing x f k v s.machine r h) in
       rw e w
 
   store_word : (s : State) {output : List ℕ} (image new : List ℕ) (phase : Phase) (vs : List Given) → Standing s image phase vs → Stores output s new

@@ -6,27 +6,22 @@ use mathlib.Core.Bool.{Bool, true, false, not, ◌&&◌, ◌||◌}
 use native.Mathlib.Omega.{arith}
 use lib.Dec.{ltb, eqb}
 use borrow.Author.Tests.{eqb-true, ltb-true, lt-ltb}
+use Rattle.std.specs.Prelude.{Some, None, Ok, Err}
 use Rattle.laws.specs.Bits.{pick}
 use Rattle.laws.proofs.Bits.{and_left, and_right}
-use Rattle.machine.specs.Refusals.{◌else◌, refuse, answer_by}
+use Rattle.machine.specs.Refusals.{◌else◌, refuse, Check}
 use Rattle.machine.proofs.Refusals.{else_passed}
-use Rattle.job_plans.specs.declared.Job.{Job}
-use Rattle.job_plans.specs.declared.Held.{Held}
-use Rattle.job_plans.specs.declared.Held.TheVariants.{Nothing, Holds}
-use Rattle.job_plans.specs.Fields.{Kind, greatest, smallest, scaledAdd, product, unknown, kind_of, extreme_check, scaled_add_check, product_check, used_check_for, used_check, is_zero, unused_zero_for, unused_zero}
-use Rattle.job_plans.specs.Places.{at_place, in_table_for, in_table, held_check, moved, next_below, next_above, next_within, after_trial, after_second, next}
-use Rattle.job_plans.proofs.Fair.{Fair, fair}
 use Rattle.machine.specs.declared.Panel.{Panel}
 use Rattle.machine.specs.declared.Lines.{Lines}
 use Rattle.machine.specs.declared.Refusal.{Refusal}
-use Rattle.machine.specs.declared.Check.{Check}
-use Rattle.machine.specs.declared.Check.TheVariants as check
 use Rattle.machine.specs.Machine.{Machine}
 use Rattle.machine.specs.Pulse.{pulsed}
+use Rattle.job_plans.specs.declared.Job.{Job}
+use Rattle.job_plans.specs.Fields.{Kind, greatest, smallest, scaledAdd, product, unknown, kind_of, extreme_check, scaled_add_check, product_check, used_check_for, used_check, is_zero, unused_zero_for, unused_zero, Held}
+use Rattle.job_plans.specs.Places.{at_place, in_table_for, in_table, held_check, moved, next_below, next_above, next_within, after_trial, after_second, next}
+use Rattle.job_plans.proofs.Fair.{Fair, fair}
 use Rattle.job_plans.specs.declared.Command.{Command}
-use Rattle.jobs.specs.declared.Started.TheVariants as started
-use Rattle.jobs.specs.declared.Stepped.TheVariants as answer
-use Rattle.jobs.specs.Calls.{start_of, step_check, gave, step_of}
+use Rattle.jobs.specs.Calls.{start_of, step_check, gave, step_of, given_by}
 use Rattle.jobs.specs.Runs.{State, held_after, stepped, steps}
 use Rattle.ends.specs.Ends.{Accepted}
 use Rattle.ends.proofs.Starts.{accepted_is}
@@ -53,7 +48,7 @@ or_right : (a b : Bool) → b ≡ true → (a || b) ≡ true
 or_right true b h = refl
 or_right false b h = h
 
-all_right : (c : Check) (r s : Refusal) (a b : Bool) → c ≡ check.Passed → a ≡ true → b ≡ true → (c else refuse r (not a) else refuse s (not b)) ≡ check.Passed
+all_right : (c : Check) (r s : Refusal) (a b : Bool) → c ≡ Ok tt → a ≡ true → b ≡ true → (c else refuse r (not a) else refuse s (not b)) ≡ Ok tt
 all_right c r s a b h g k = rw (h, g, k)
 
 pulsed_width : (m : Machine) (p : Panel) (l : Lines) → (pulsed m p l).width ≡ m.width
@@ -70,8 +65,8 @@ module _ (n : ℕ) (o : Job) where
   used_same unknown phase i j = refl
 
   -- in order at another place, where the unused fields and the place are right there too
-  good : (k : Kind) → kind_of o.kind ≡ k → used_check_for k n o ≡ check.Passed → (phase i j : ℕ) → unused_zero_for k (moved o phase i j) ≡ true
-      → in_table_for k (moved o phase i j) ≡ true → job_check n (Holds (moved o phase i j)) ≡ check.Passed
+  good : (k : Kind) → kind_of o.kind ≡ k → used_check_for k n o ≡ Ok tt → (phase i j : ℕ) → unused_zero_for k (moved o phase i j) ≡ true
+      → in_table_for k (moved o phase i j) ≡ true → job_check n (Some (moved o phase i j)) ≡ Ok tt
   unfolding held_check used_check unused_zero in_table
   good k e u phase i j z t =
       let q = moved o phase i j in
@@ -79,7 +74,7 @@ module _ (n : ℕ) (o : Job) where
       (all_right (used_check n q) _ _ (unused_zero q) (in_table q) (ap (λ (k : Kind). used_check_for k n q) e ∙ used_same k phase i j ∙ u)
       (ap (λ (k : Kind). unused_zero_for k q) e ∙ z) (ap (λ (k : Kind). in_table_for k q) e ∙ t))
 
-  picked : (t : Bool) (h g : Held) → (t ≡ true → job_check n h ≡ check.Passed) → job_check n g ≡ check.Passed → job_check n (pick t h g) ≡ check.Passed
+  picked : (t : Bool) (h g : Held) → (t ≡ true → job_check n h ≡ Ok tt) → job_check n g ≡ Ok tt → job_check n (pick t h g) ≡ Ok tt
   picked true h g a b = a refl
   picked false h g a b = b
 
@@ -88,18 +83,18 @@ module _ (n : ℕ) (o : Job) where
   module _ (k : Kind) (e : kind_of o.kind ≡ k) (f : Fair n o k)
       (zeros : (phase i : ℕ) → unused_zero_for k (moved o phase i 0) ≡ true)
       (at : (phase i : ℕ) → (eqb phase 1 || eqb phase 2) ≡ true → i < o.a.width → in_table_for k (moved o phase i 0) ≡ true) (small : o.i < o.a.width) where
-    moves : (phase i : ℕ) → (eqb phase 1 || eqb phase 2) ≡ true → i < o.a.width → job_check n (Holds (moved o phase i 0)) ≡ check.Passed
+    moves : (phase i : ℕ) → (eqb phase 1 || eqb phase 2) ≡ true → i < o.a.width → job_check n (Some (moved o phase i 0)) ≡ Ok tt
     moves phase i p l = good k e f.used phase i 0 (zeros phase i) (at phase i p l)
 
-    below : (i : ℕ) → i ≡ o.i → job_check n (next_below o i) ≡ check.Passed
+    below : (i : ℕ) → i ≡ o.i → job_check n (next_below o i) ≡ Ok tt
     below zero h = refl
     below (suc i) h = moves 1 i refl (omega arith)
 
-    extreme_next : (c : ℕ) → job_check n (pick (eqb o.phase 0) (Holds (moved o 1 o.i 0))
-        (pick (eqb o.phase 1) (pick (eqb c 0) (next_below o o.i) (Holds (moved o 2 o.i 0))) (next_below o o.i))) ≡ check.Passed
+    extreme_next : (c : ℕ) → job_check n (pick (eqb o.phase 0) (Some (moved o 1 o.i 0))
+        (pick (eqb o.phase 1) (pick (eqb c 0) (next_below o o.i) (Some (moved o 2 o.i 0))) (next_below o o.i))) ≡ Ok tt
     extreme_next c =
         picked (eqb o.phase 0) _ _ (λ q. moves 1 o.i refl small)
-        (picked (eqb o.phase 1) _ _ (λ q. picked (eqb c 0) (next_below o o.i) (Holds (moved o 2 o.i 0)) (λ z. below o.i refl) (moves 2 o.i refl small)) (below o.i refl))
+        (picked (eqb o.phase 1) _ _ (λ q. picked (eqb c 0) (next_below o o.i) (Some (moved o 2 o.i 0)) (λ z. below o.i refl) (moves 2 o.i refl small)) (below o.i refl))
 
   -- what is known of an extreme at its place
   extreme_small : ((eqb o.phase 0 && eqb (o.i + 1) o.a.width) || (at_place o && ltb o.i o.a.width)) ≡ true → o.i < o.a.width
@@ -135,15 +130,15 @@ module _ (n : ℕ) (o : Job) where
     in_p = and_right (at_place o && ltb o.i o.a.width) (ltb o.i o.p.width) f.place
 
     scaled_moves : (phase i j : ℕ) → (eqb phase 1 || eqb phase 2) ≡ true → unused_zero_for scaledAdd (moved o phase i j) ≡ true
-        → ltb i o.a.width ≡ true → ltb i o.p.width ≡ true → job_check n (Holds (moved o phase i j)) ≡ check.Passed
+        → ltb i o.a.width ≡ true → ltb i o.p.width ≡ true → job_check n (Some (moved o phase i j)) ≡ Ok tt
     scaled_moves phase i j p z a b = good scaledAdd e f.used phase i j z (both _ _ (both _ _ p a) b)
 
-    scaled_next : job_check n (pick (eqb o.phase 0) (Holds (moved o 1 o.i 0)) (pick (eqb o.phase 1) (Holds (moved o 2 o.i o.j)) (next_above o))) ≡ check.Passed
+    scaled_next : job_check n (pick (eqb o.phase 0) (Some (moved o 1 o.i 0)) (pick (eqb o.phase 1) (Some (moved o 2 o.i o.j)) (next_above o))) ≡ Ok tt
     scaled_next =
         let more = ltb (o.i + 1) o.a.width && ltb (o.i + 1) o.p.width in
         picked (eqb o.phase 0) _ _ (λ q. scaled_moves 1 o.i 0 refl (scaled_zeros 1 o.i) in_a in_p)
         (picked (eqb o.phase 1) _ _ (λ q. scaled_moves 2 o.i o.j refl f.zero in_a in_p)
-        (picked more _ Nothing
+        (picked more _ None
         (λ q. scaled_moves 1 (o.i + 1) 0 refl (scaled_zeros 1 (o.i + 1)) (and_left (ltb (o.i + 1) o.a.width) (ltb (o.i + 1) o.p.width) q) (and_right (ltb (o.i + 1) o.a.width) (ltb (o.i + 1) o.p.width) q))
         refl))
 
@@ -166,21 +161,21 @@ module _ (n : ℕ) (o : Job) where
     sum_in_p = ltb-true (o.i + o.j) o.p.width (and_right (at_i && ltb o.j o.b.width) (ltb (o.i + o.j) o.p.width) f.place)
 
     product_moves : (phase i j : ℕ) → (eqb phase 1 || eqb phase 2) ≡ true → i < o.a.width → j < o.b.width → i + j < o.p.width
-        → job_check n (Holds (moved o phase i j)) ≡ check.Passed
+        → job_check n (Some (moved o phase i j)) ≡ Ok tt
     product_moves phase i j p a b c =
         good product e f.used phase i j f.zero
         (both _ _ (both _ _ (both _ _ p (lt-ltb i o.a.width a)) (lt-ltb j o.b.width b)) (lt-ltb (i + j) o.p.width c))
 
-    product_next : job_check n (pick (eqb o.phase 0) (Holds (moved o 1 o.i 0)) (pick (eqb o.phase 1) (Holds (moved o 2 o.i o.j)) (next_within o))) ≡ check.Passed
+    product_next : job_check n (pick (eqb o.phase 0) (Some (moved o 1 o.i 0)) (pick (eqb o.phase 1) (Some (moved o 2 o.i o.j)) (next_within o))) ≡ Ok tt
     product_next =
         let more-j = ltb (o.j + 1) o.b.width && ltb (o.i + (o.j + 1)) o.p.width in
         let more-i = ltb (o.i + 1) o.a.width && ltb (o.i + 1) o.p.width in
         picked (eqb o.phase 0) _ _ (λ q. product_moves 1 o.i 0 refl i_in_a (omega (arith, j_in_b)) (omega (arith, sum_in_p)))
         (picked (eqb o.phase 1) _ _ (λ q. product_moves 2 o.i o.j refl i_in_a j_in_b sum_in_p)
-        (picked more-j (Holds (moved o 1 o.i (o.j + 1))) (next_above o)
+        (picked more-j (Some (moved o 1 o.i (o.j + 1))) (next_above o)
         (λ q. product_moves 1 o.i (o.j + 1) refl i_in_a (ltb-true (o.j + 1) o.b.width (and_left (ltb (o.j + 1) o.b.width) (ltb (o.i + (o.j + 1)) o.p.width) q))
         (ltb-true (o.i + (o.j + 1)) o.p.width (and_right (ltb (o.j + 1) o.b.width) (ltb (o.i + (o.j + 1)) o.p.width) q)))
-        (picked more-i (Holds (moved o 1 (o.i + 1) 0)) Nothing
+        (picked more-i (Some (moved o 1 (o.i + 1) 0)) None
         (λ q. let a = ltb-true (o.i + 1) o.a.width (and_left (ltb (o.i + 1) o.a.width) (ltb (o.i + 1) o.p.width) q) in
         let c = ltb-true (o.i + 1) o.p.width (and_right (ltb (o.i + 1) o.a.width) (ltb (o.i + 1) o.p.width) q) in
         product_moves 1 (o.i + 1) 0 refl a (omega (arith, j_in_b)) (omega (arith, c)))
@@ -188,12 +183,12 @@ module _ (n : ℕ) (o : Job) where
 
   -- ---- every kind
 
-  pub stays : held_check n o ≡ check.Passed → (c : ℕ) → job_check n (next o c) ≡ check.Passed
+  pub stays : held_check n o ≡ Ok tt → (c : ℕ) → job_check n (next o c) ≡ Ok tt
   unfolding next
   stays h c = go (kind_of o.kind) refl (fair n o h)
     where
       go : (k : Kind) → kind_of o.kind ≡ k → Fair n o k
-          → job_check n (pick (eqb o.phase 0) (Holds (moved o 1 o.i 0)) (pick (eqb o.phase 1) (after_trial k o c) (after_second k o))) ≡ check.Passed
+          → job_check n (pick (eqb o.phase 0) (Some (moved o 1 o.i 0)) (pick (eqb o.phase 1) (after_trial k o c) (after_second k o))) ≡ Ok tt
       go greatest e f = extreme_next greatest e f (λ ph i. extreme_zeros f.zero) (λ ph i p l. extreme_at ph i p l) (extreme_small f.place) c
       go smallest e f = extreme_next smallest e f (λ ph i. extreme_zeros f.zero) (λ ph i p l. extreme_at ph i p l) (extreme_small f.place) c
       go scaledAdd e f = scaled_next e f
@@ -202,24 +197,24 @@ module _ (n : ℕ) (o : Job) where
 
 -- ---- any accepted call that is none of a round's
 
-start_held : (m : Machine) (h : Held) (o q : Job) → AreResponses m.responses → JobFits o → start_of m h o ≡ started.Holds q → job_check m.width (Holds q) ≡ check.Passed
+start_held : (m : Machine) (h : Held) (o q : Job) → AreResponses m.responses → JobFits o → start_of m h o ≡ Ok q → job_check m.width (Some q) ≡ Ok tt
 unfolding steps
 start_held m h o q b c e =
     let p = accepted_is m h o q e in
-    let a : Accepted m o = ap (λ (h : Held). start_of m h o) (sym p.0) ∙ e ∙ ap started.Holds p.1 in
+    let a : Accepted m o = ap (λ (h : Held). start_of m h o) (sym p.0) ∙ e ∙ ap Ok p.1 in
     rw p.1 (storable m o a (record { responses = b; job = (c, tt) }) 0 (omega arith)).jobs
 
-gave_held : (s : State) {k : Command} {c : ℕ} {h : Held} → step_of s.machine s.held ≡ answer.Gave k c h
-    → job_check s.machine.width s.held ≡ check.Passed → job_check s.machine.width (stepped s).held ≡ check.Passed
+gave_held : (s : State) {k : Command} {c : ℕ} {h : Held} → step_of s.machine s.held ≡ Ok (record { command = k; count = c; held = h })
+    → job_check s.machine.width s.held ≡ Ok tt → job_check s.machine.width (stepped s).held ≡ Ok tt
 unfolding stepped step_of
 gave_held s e b = go (step_check s.machine s.held) s.held b
   where
-    go : (c : Check) (h : Held) → job_check s.machine.width h ≡ check.Passed → job_check s.machine.width (held_after (answer_by c answer.Refused (gave s.machine h)) h) ≡ check.Passed
-    go (check.Refused r) h b = b
-    go check.Passed Nothing b = b
-    go check.Passed (Holds o) b = stays s.machine.width o (else_passed (held_check s.machine.width o) check.Passed b).0 _
+    go : (c : Check) (h : Held) → job_check s.machine.width h ≡ Ok tt → job_check s.machine.width (held_after (given_by c (gave s.machine h)) h) ≡ Ok tt
+    go (Err r) h b = b
+    go (Ok tt) None b = b
+    go (Ok tt) (Some o) b = stays s.machine.width o (else_passed (held_check s.machine.width o) (Ok tt) b).0 _
 
-looks_job : {s t : State} → Looks s t → Typed s → job_check s.machine.width s.held ≡ check.Passed → job_check t.machine.width t.held ≡ check.Passed
+looks_job : {s t : State} → Looks s t → Typed s → job_check s.machine.width s.held ≡ Ok tt → job_check t.machine.width t.held ≡ Ok tt
 looks_job (events.shows_word b e) y h = h
 looks_job (events.resolves key care e) y h = h
 looks_job (events.totals e) y h = h
@@ -227,7 +222,7 @@ looks_job (events.starts {s} {q} o c a) y h = start_held s.machine s.held o q y.
 looks_job (events.writes output e) y h = h
 looks_job (events.loads before after) y h = h
 
-pub other_job : {s t : State} → Other s t → Typed s → job_check s.machine.width s.held ≡ check.Passed → job_check t.machine.width t.held ≡ check.Passed
+pub other_job : {s t : State} → Other s t → Typed s → job_check s.machine.width s.held ≡ Ok tt → job_check t.machine.width t.held ≡ Ok tt
 other_job (events.looks l) y h = looks_job l y h
 other_job (events.pulses {s} p l a) y h = rw (accepted_pulse s.machine p l a, pulsed_width s.machine p l) h
 other_job (events.steps {s} {k} a) y h = rw (accepted_step s a, pulsed_width s.machine k.panel k.lines) (gave_held s a h)

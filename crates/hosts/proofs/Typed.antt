@@ -4,6 +4,7 @@ use mathlib.Core.Bool.{Bool, true, false, ◌&&◌}
 use mathlib.Core.List.{List, [], ◌∷◌}
 use native.Mathlib.Omega.{arith}
 use lib.Dec.{ltb, eqb}
+use Rattle.std.specs.Prelude.{Some, None, Ok, Err}
 use Rattle.laws.specs.Bits.{bit, pick}
 use Rattle.laws.specs.Lists.{zip}
 use Rattle.laws.proofs.Bits.{number_lt}
@@ -12,17 +13,12 @@ use Rattle.machine.specs.declared.Lines.{Lines}
 use Rattle.machine.specs.Machine.{Machine, response_bits, selected}
 use Rattle.machine.specs.Search.{matches, marked}
 use Rattle.machine.specs.Pulse.{flipped, response_after, pulsed}
-use Rattle.machine.specs.Refusals.{answer_by}
+use Rattle.machine.specs.Refusals.{Check}
 use Rattle.job_plans.specs.declared.Job.{Job}
-use Rattle.job_plans.specs.declared.Held.{Held}
-use Rattle.job_plans.specs.declared.Held.TheVariants.{Nothing, Holds}
-use Rattle.job_plans.specs.Fields.{Kind, greatest, smallest, scaledAdd, product, unknown, kind_of}
+use Rattle.job_plans.specs.Fields.{Kind, greatest, smallest, scaledAdd, product, unknown, kind_of, Held}
 use Rattle.job_plans.specs.Places.{first_for, first, moved, next_below, next_above, next_within, after_trial, after_second, next}
-use Rattle.jobs.specs.declared.Stepped.TheVariants as answer
-use Rattle.jobs.specs.Calls.{step_check, gave, step_of, machine_after, after_step}
+use Rattle.jobs.specs.Calls.{step_check, gave, step_of, machine_after, after_step, given_by}
 use Rattle.jobs.specs.Runs.{State, held_after, stepped}
-use Rattle.machine.specs.declared.Check.{Check}
-use Rattle.machine.specs.declared.Check.TheVariants as check
 use Rattle.image_layout.specs.Sizes.{response_size}
 use Rattle.image_layout.specs.Format.{held_jobs, AreResponses, JobFits, JobsFit}
 use Rattle.hosts.specs.Images.{Typed}
@@ -58,7 +54,7 @@ pick_fits true h g a b = a
 pick_fits false h g a b = b
 
 module _ (o : Job) (h : JobFits o) where
-  pub first_fits : Fits (Holds (first o))
+  pub first_fits : Fits (Some (first o))
   unfolding first
   first_fits = (go (kind_of o.kind), tt)
     where
@@ -70,7 +66,7 @@ module _ (o : Job) (h : JobFits o) where
       go unknown = h
 
   -- wherever it stands
-  moved_fits : (phase i j : ℕ) → Fits (Holds (moved o phase i j))
+  moved_fits : (phase i j : ℕ) → Fits (Some (moved o phase i j))
   moved_fits phase i j = (h, tt)
 
   below_fits : (i : ℕ) → Fits (next_below o i)
@@ -79,16 +75,16 @@ module _ (o : Job) (h : JobFits o) where
 
   above_fits : Fits (next_above o)
   above_fits =
-      pick_fits (ltb (o.i + 1) o.a.width && ltb (o.i + 1) o.p.width) (Holds (moved o 1 (o.i + 1) 0)) Nothing (moved_fits 1 (o.i + 1) 0) tt
+      pick_fits (ltb (o.i + 1) o.a.width && ltb (o.i + 1) o.p.width) (Some (moved o 1 (o.i + 1) 0)) None (moved_fits 1 (o.i + 1) 0) tt
 
   within_fits : Fits (next_within o)
   within_fits =
-      pick_fits (ltb (o.j + 1) o.b.width && ltb (o.i + (o.j + 1)) o.p.width) (Holds (moved o 1 o.i (o.j + 1))) (next_above o)
+      pick_fits (ltb (o.j + 1) o.b.width && ltb (o.i + (o.j + 1)) o.p.width) (Some (moved o 1 o.i (o.j + 1))) (next_above o)
       (moved_fits 1 o.i (o.j + 1)) above_fits
 
   trial_fits : (k : Kind) (n : ℕ) → Fits (after_trial k o n)
-  trial_fits greatest n = pick_fits (eqb n 0) (next_below o o.i) (Holds (moved o 2 o.i 0)) (below_fits o.i) (moved_fits 2 o.i 0)
-  trial_fits smallest n = pick_fits (eqb n 0) (next_below o o.i) (Holds (moved o 2 o.i 0)) (below_fits o.i) (moved_fits 2 o.i 0)
+  trial_fits greatest n = pick_fits (eqb n 0) (next_below o o.i) (Some (moved o 2 o.i 0)) (below_fits o.i) (moved_fits 2 o.i 0)
+  trial_fits smallest n = pick_fits (eqb n 0) (next_below o o.i) (Some (moved o 2 o.i 0)) (below_fits o.i) (moved_fits 2 o.i 0)
   trial_fits scaledAdd n = moved_fits 2 o.i o.j
   trial_fits product n = moved_fits 2 o.i o.j
   trial_fits unknown n = tt
@@ -104,7 +100,7 @@ module _ (o : Job) (h : JobFits o) where
   unfolding next
   next_fits n =
       let k = kind_of o.kind in
-      pick_fits (eqb o.phase 0) (Holds (moved o 1 o.i 0)) _ (moved_fits 1 o.i 0)
+      pick_fits (eqb o.phase 0) (Some (moved o 1 o.i 0)) _ (moved_fits 1 o.i 0)
       (pick_fits (eqb o.phase 1) (after_trial k o n) (after_second k o) (trial_fits k n) (second_fits k))
 
 -- ---- a step, accepted or refused
@@ -114,9 +110,9 @@ unfolding stepped after_step step_of
 stepped_typed s t = go (step_check s.machine s.held) s.held t.job
   where
     after : Check → Held → State
-    after c h = record { machine = machine_after (answer_by c answer.Refused (gave s.machine h)) s.machine; held = held_after (answer_by c answer.Refused (gave s.machine h)) h }
+    after c h = record { machine = machine_after (given_by c (gave s.machine h)) s.machine; held = held_after (given_by c (gave s.machine h)) h }
 
     go : (c : Check) (h : Held) → Fits h → Typed (after c h)
-    go (check.Refused r) h f = record { responses = t.responses; job = f }
-    go check.Passed Nothing f = record { responses = t.responses; job = f }
-    go check.Passed (Holds o) f = record { responses = pulsed_responses s.machine _ _ t.responses; job = next_fits o f.0 _ }
+    go (Err r) h f = record { responses = t.responses; job = f }
+    go (Ok tt) None f = record { responses = t.responses; job = f }
+    go (Ok tt) (Some o) f = record { responses = pulsed_responses s.machine _ _ t.responses; job = next_fits o f.0 _ }

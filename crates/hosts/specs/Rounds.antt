@@ -1,38 +1,27 @@
 -- Document 01, 'The hand-out round': a host's round, event by event, over machines and stored images.
-use Rattle.std.specs.Prelude.{ℕ, suc, ◌<◌, ◌≡◌, List, [], ◌∷◌, ◌++◌, map, length, take, get_or}
+use Rattle.std.specs.Prelude.{ℕ, suc, ◌<◌, ◌≡◌, List, [], ◌∷◌, ◌++◌, map, length, take, get_or, Option, Some, Result, Ok, Err}
 use Rattle.laws.specs.Bits.{bit}
 use Rattle.machine.specs.declared.Panel.{Panel}
 use Rattle.machine.specs.declared.Lines.{Lines}
 use Rattle.machine.specs.declared.WordSlice.{WordSlice}
 use Rattle.machine.specs.declared.ResponseBit.{ResponseBit}
 use Rattle.machine.specs.declared.Refusal.{Refusal}
-use Rattle.machine.specs.declared.Check.TheVariants.{Passed}
 use Rattle.machine.specs.Machine.{Machine}
 use Rattle.machine.specs.Refusals.{pulse_check, after}
-use Rattle.resolver.specs.declared.Resolved.{Resolved}
-use Rattle.resolver.specs.declared.Resolved.TheVariants as resolved
 use Rattle.resolver.specs.Answers.{resolution}
 use Rattle.rounds.specs.declared.Verdict.{Verdict}
 use Rattle.rounds.specs.declared.Verdict.TheVariants.{Done, Faulty}
-use Rattle.rounds.specs.declared.Reply.TheVariants as reply
 use Rattle.rounds.specs.Round.{show_of, reply_of, after_answer}
 use Rattle.rounds.specs.Handout.{numbers_with, responders, response}
-use Rattle.handout.specs.declared.Report.TheVariants as report
 use Rattle.handout.specs.Whole.{report_of, after_round}
 use Rattle.job_plans.specs.declared.Job.{Job}
-use Rattle.job_plans.specs.declared.Held.{Held}
-use Rattle.job_plans.specs.declared.Held.TheVariants.{Holds}
 use Rattle.job_plans.specs.declared.Command.{Command}
-use Rattle.jobs.specs.declared.Started.TheVariants as started
-use Rattle.jobs.specs.declared.Stepped.TheVariants as answer
-use Rattle.job_plans.specs.Fields.{Kind, greatest, smallest, scaledAdd, product, unknown, kind_of}
+use Rattle.job_plans.specs.Fields.{Kind, greatest, smallest, scaledAdd, product, unknown, kind_of, Held}
+use Rattle.job_tally.specs.Totals.{total_of}
 use Rattle.jobs.specs.Calls.{start_of, step_of}
 use Rattle.jobs.specs.Runs.{State, stepped}
-use Rattle.job_tally.specs.declared.Total.{Total}
-use Rattle.job_tally.specs.Totals.{total_of}
-use Rattle.image.specs.declared.Wrote.{Wrote}
-use Rattle.image.specs.Calls.{write_of}
 use Rattle.image_layout.specs.Format.{JobFits}
+use Rattle.image.specs.Calls.{write_of}
 use Rattle.hosts.specs.Images.{Stores, Resumes}
 
 -- ---- responders
@@ -50,23 +39,23 @@ lower x m k = length (numbers_with x 0 (take k m.responses))
 
 -- a call that lends the machine by & only, or none of it, whatever it answers; the panel is not part of what stands
 pub data Looks : State → State → Type 0 where
-  shows_word : {s : State} {a : Resolved} (y : ResponseBit) → show_of y s.machine ≡ a → Looks s s
-  resolves : {s : State} {a : Resolved} (key care : ℕ) → resolution key care s.machine ≡ a → Looks s s
-  totals : {s : State} {a : Total} → total_of s.machine s.held ≡ a → Looks s s
-  starts : {s : State} {q : Job} (o : Job) → JobFits o → start_of s.machine s.held o ≡ started.Holds q
-      → Looks s (record { machine = s.machine; held = Holds q })
-  writes : {s : State} {a : Wrote} (output : List ℕ) → write_of s (length output) ≡ a → Looks s s
+  shows_word : {s : State} {a : Result (Option WordSlice) Refusal} (y : ResponseBit) → show_of y s.machine ≡ a → Looks s s
+  resolves : {s : State} {a : Result (Option WordSlice) Refusal} (key care : ℕ) → resolution key care s.machine ≡ a → Looks s s
+  totals : {s : State} {a : Result ℕ Refusal} → total_of s.machine s.held ≡ a → Looks s s
+  starts : {s : State} {q : Job} (o : Job) → JobFits o → start_of s.machine s.held o ≡ Ok q
+      → Looks s (record { machine = s.machine; held = Some q })
+  writes : {s : State} {a : Result ℕ Refusal} (output : List ℕ) → write_of s (length output) ≡ a → Looks s s
   loads : {s : State} (before after : Panel) → Looks s s
 
 -- an accepted call of the library; a pulse may come with any panel, an answer and a whole round with any two bits
 pub data Other : State → State → Type 0 where
   looks : {s t : State} → Looks s t → Other s t
-  pulses : {s : State} (p : Panel) (l : Lines) → pulse_check s.machine p l ≡ Passed
+  pulses : {s : State} (p : Panel) (l : Lines) → pulse_check s.machine p l ≡ Ok tt
       → Other s (record { machine = after s.machine p l; held = s.held })
-  steps : {s : State} {k : Command} {c : ℕ} {h : Held} → step_of s.machine s.held ≡ answer.Gave k c h → Other s (stepped s)
-  answers_word : {s : State} (y g : ResponseBit) (k : WordSlice) (v : Verdict) → reply_of y g k s.machine ≡ reply.Taken
+  steps : {s : State} {k : Command} {c : ℕ} {h : Held} → step_of s.machine s.held ≡ Ok (record { command = k; count = c; held = h }) → Other s (stepped s)
+  answers_word : {s : State} (y g : ResponseBit) (k : WordSlice) (v : Verdict) → reply_of y g k s.machine ≡ Ok tt
       → Other s (record { machine = after_answer y g k v s.machine; held = s.held })
-  works_round : {s : State} {done faulty : ℕ} (y g : ResponseBit) (vs : List ℕ) → report_of y g vs s.machine ≡ report.Ended done faulty
+  works_round : {s : State} {done faulty : ℕ} (y g : ResponseBit) (vs : List ℕ) → report_of y g vs s.machine ≡ Ok (record { done = done; faulty = faulty })
       → Other s (record { machine = after_round y g vs s.machine; held = s.held })
 
 -- bits X and F of each response are as they were
@@ -131,13 +120,13 @@ pub data Entry : Type 0 where
 -- `Own x f vs s phase book t next new`: one call of the round's own, while the answers vs are stored: from s, phase and book to t, next and new.
 -- "The host shows before each answer"; it may ask again while a word is shown
 pub data Own (x f : ResponseBit) (vs : List Given) : State → Phase → List Entry → State → Phase → List Entry → Type 0 where
-  shows : {s : State} {book : List Entry} {k : WordSlice} → show_of x s.machine ≡ resolved.At k
+  shows : {s : State} {book : List Entry} {k : WordSlice} → show_of x s.machine ≡ Ok (Some k)
       → Own x f vs s ready book s (showing k.0) (shown k.0 (length vs) ∷ book)
-  asks : {s : State} {book : List Entry} {j : ℕ} {k : WordSlice} → show_of x s.machine ≡ resolved.At k
+  asks : {s : State} {book : List Entry} {j : ℕ} {k : WordSlice} → show_of x s.machine ≡ Ok (Some k)
       → Own x f vs s (showing j) book s (showing k.0) (asked k.0 (length vs) ∷ book)
-  answers : {s : State} {book : List Entry} {j : ℕ} (k : WordSlice) (v : Verdict) → reply_of x f k s.machine ≡ reply.Taken
+  answers : {s : State} {book : List Entry} {j : ℕ} (k : WordSlice) (v : Verdict) → reply_of x f k s.machine ≡ Ok tt
       → Own x f vs s (showing j) book (record { machine = after_answer x f k v s.machine; held = s.held }) (answered (record { word = k.0; verdict = v })) book
-  refused : {s : State} {book : List Entry} {phase : Phase} {r : Refusal} (k : WordSlice) (v : Verdict) → reply_of x f k s.machine ≡ reply.Refused r
+  refused : {s : State} {book : List Entry} {phase : Phase} {r : Refusal} (k : WordSlice) (v : Verdict) → reply_of x f k s.machine ≡ Err r
       → Own x f vs s phase book (record { machine = after_answer x f k v s.machine; held = s.held }) phase book
 
 -- `Hosted x f b s image phase vs book`: a round over X and F that began at b; s stands now, `image` is the last stored, and vs are the answers

@@ -1,8 +1,7 @@
 -- Document 01, 'Jobs' and 'The image': a job worked by steps, with images stored and stops in between.
-use Rattle.std.specs.Prelude.{ℕ, suc, ◌≡◌, List, [], ◌∷◌}
-use Rattle.job_plans.specs.declared.Held.{Held}
+use Rattle.std.specs.Prelude.{ℕ, suc, ◌≡◌, List, [], ◌∷◌, Ok}
+use Rattle.job_plans.specs.Fields.{Held}
 use Rattle.job_plans.specs.declared.Command.{Command}
-use Rattle.jobs.specs.declared.Stepped.TheVariants as answer
 use Rattle.jobs.specs.Calls.{step_of}
 use Rattle.jobs.specs.Runs.{State, stepped}
 use Rattle.hosts.specs.Images.{Stores, Resumes}
@@ -24,7 +23,7 @@ pub data In (i : Kept) : List Kept → Type 0 where
 pub data Worked (b : State) : ℕ → ℕ → State → List Kept → Type 0 where
   begun : Worked b 0 0 b []
   gave : {k given : ℕ} {s : State} {images : List Kept} {c : Command} {n : ℕ} {h : Held} → Worked b k given s images
-      → step_of s.machine s.held ≡ answer.Gave c n h → Worked b (suc k) (suc given) (stepped s) images
+      → step_of s.machine s.held ≡ Ok (record { command = c; count = n; held = h }) → Worked b (suc k) (suc given) (stepped s) images
   stored : {k given : ℕ} {s : State} {images : List Kept} {output image : List ℕ} → Worked b k given s images → Stores output s image
       → Worked b k given s (record { image = image; pulses = k; given = given } ∷ images)
   resumed : {k given : ℕ} {s t : State} {images : List Kept} {i : Kept} {words responses : List ℕ} → Worked b k given s images → In i images
