@@ -8,22 +8,21 @@ use native.Mathlib.Nat.{mod-eq_of_lt}
 use lib.Dec.{eqb}
 use lib.ListN.{length, get_or}
 use borrow.Author.Tests.{leb-false, lt-ltb, le-ltb}
+use Rattle.std.specs.Prelude.{Ok, Err}
 use Rattle.machine.specs.declared.Lines.{Lines}
 use Rattle.machine.specs.declared.Refusal.{Refusal}
-use Rattle.machine.specs.declared.Check.{Check}
 use Rattle.machine.specs.declared.Refusal.TheVariants.{Size, PanelTooWide}
-use Rattle.machine.specs.declared.Check.TheVariants.{Passed, Refused}
 use Rattle.machine.specs.Machine.{Machine, response_bits}
 use Rattle.machine.specs.Panel.{panel_of}
 use Rattle.machine.specs.Search.{one_code, one_setting, compared_only}
-use Rattle.machine.specs.Refusals.{too_wide, bad_panel, bad_codes, bad_address, refuse, pulse_check, number_of, turn}
+use Rattle.machine.specs.Refusals.{Check, too_wide, bad_panel, bad_codes, bad_address, refuse, pulse_check, number_of, turn}
 use Rattle.machine.proofs.Refusals.{else_passed, not_refused, or_left, or_right}
 use Rattle.entry_forms.specs.Numbers.{panel_size, overflows, panel_check, panel_in, lower_of}
 
 narrow : (x : ℕ) → too_wide response_bits x ≡ false → x % 2 ^ response_bits ≡ x
 narrow x h = mod-eq_of_lt (leb-false (2 ^ response_bits) x h)
 
-pub panel_in_lem : (rs : List ℕ) → panel_check rs ≡ Passed → panel_in rs ≡ panel_of rs
+pub panel_in_lem : (rs : List ℕ) → panel_check rs ≡ Ok tt → panel_in rs ≡ panel_of rs
 panel_in_lem rs h =
     let any = overflows rs 5 || (overflows rs 6 || overflows rs 7) in
     let none = not_refused PanelTooWide any (else_passed (refuse Size (not (eqb (length rs) panel_size))) (refuse PanelTooWide any) h).1 in
@@ -41,10 +40,10 @@ check_in m rs l = refl
 
 -- ---- of two numbers the one whose turn comes first: both arms of the code's test
 
-pub lower_yes : (own why : Refusal) (other : Check) (n k : ℕ) → other ≡ Refused why → n ≡ turn (number_of why) → k ≡ turn (number_of own) → n < k
+pub lower_yes : (own why : Refusal) (other : Check) (n k : ℕ) → other ≡ Err why → n ≡ turn (number_of why) → k ≡ turn (number_of own) → n < k
     → why ≡ lower_of own other
 lower_yes own why other n k e en ek h = rw (e, ← en, ← ek, lt-ltb n k h)
 
-pub lower_no : (own why : Refusal) (other : Check) (n k : ℕ) → other ≡ Refused why → n ≡ turn (number_of why) → k ≡ turn (number_of own) → k ≤ n
+pub lower_no : (own why : Refusal) (other : Check) (n k : ℕ) → other ≡ Err why → n ≡ turn (number_of why) → k ≡ turn (number_of own) → k ≤ n
     → own ≡ lower_of own other
 lower_no own why other n k e en ek h = rw (e, ← en, ← ek, le-ltb n k h)

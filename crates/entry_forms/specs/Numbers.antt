@@ -1,28 +1,26 @@
 -- What a caller in another language hands over and is told, as numbers and lent buffers (house, all of it: docs/DECISIONS.md, 'The library for C').
-use Rattle.std.specs.Prelude.{ℕ, ◌+◌, ◌*◌, ◌%◌, ◌^◌, Bool, not, ◌||◌, List, [], ◌∷◌, ltb, eqb, length, get_or}
+use Rattle.std.specs.Prelude.{ℕ, ◌+◌, ◌*◌, ◌%◌, ◌^◌, Bool, not, ◌||◌, List, [], ◌∷◌, ltb, eqb, length, get_or, Ok, Err}
 use Rattle.std.proofs.lemmas.List.Edits.{sets}
 use Rattle.laws.specs.Bits.{bit, digit, pick}
 use Rattle.machine.specs.declared.Panel.{Panel}
 use Rattle.machine.specs.declared.Lines.{Lines}
 use Rattle.machine.specs.declared.Refusal.{Refusal}
 use Rattle.machine.specs.declared.Refusal.TheVariants.{Size, PanelTooWide, WrongLines, NoRoom}
-use Rattle.machine.specs.declared.Check.{Check}
-use Rattle.machine.specs.declared.Check.TheVariants as check
 use Rattle.machine.specs.Machine.{response_bits}
 use Rattle.machine.specs.Panel.{panel_of}
-use Rattle.machine.specs.Refusals.{too_wide, ◌else◌, refuse, number_of, turn}
+use Rattle.machine.specs.Refusals.{Check, too_wide, ◌else◌, refuse, number_of, turn}
 use Rattle.resolver.specs.Answers.{Told}
 
 -- ---- several things wrong at once: "Checked in number order", with 20 to 25 in the place of 8: so the number whose turn comes first is given
 
 -- of a refusal and another check, the refusal whose number's turn comes first
 abbrev pub lower_of : Refusal → Check → Refusal
-lower_of r check.Passed = r
-lower_of r (check.Refused s) = pick (ltb (turn (number_of s)) (turn (number_of r))) s r
+lower_of r (Ok tt) = r
+lower_of r (Err s) = pick (ltb (turn (number_of s)) (turn (number_of r))) s r
 
 abbrev pub lower : Check → Check → Check
-lower check.Passed c = c
-lower (check.Refused r) c = check.Refused (lower_of r c)
+lower (Ok tt) c = c
+lower (Err r) c = Err (lower_of r c)
 
 -- ---- a panel is a buffer of its registers in the order of their numbers
 

@@ -10,32 +10,28 @@ ghost use Rattle.machine.specs.Refusals.{number_of};
 ghost use Rattle.resolver.specs.Answers.{told};
 ghost use Rattle.entry_forms.specs.Numbers as forms;
 
-use machine::{Check, Lines, Panel, Refusal, WordSlice, refuse, response_of, too_wide};
-use resolver::Resolved;
+use machine::{
+    Lines, Panel, RESPONSE_BITS, Refusal, WordSlice, also_of, refuse, response_of, too_wide,
+    turn_of,
+};
 
 // ---- several things wrong at once
 
-pub fn lower_of(own: Refusal, other: Check) -> Refusal
+pub fn lower_of(own: Refusal, other: Result<(), Refusal>) -> Refusal
     ensures { result ≡ forms.lower_of own other }
 {
     match other {
-        Check::Passed => own,
-        Check::Refused(why) => {
-            if machine::turn_of(why) < machine::turn_of(own) {
-                why
-            } else {
-                own
-            }
-        }
+        Err(why) if turn_of(why) < turn_of(own) => why,
+        _ => own,
     }
 }
 
-pub fn lower(first: Check, second: Check) -> Check
+pub fn lower(first: Result<(), Refusal>, second: Result<(), Refusal>) -> Result<(), Refusal>
     ensures { result ≡ forms.lower first second }
 {
     match first {
-        Check::Passed => second,
-        Check::Refused(why) => Check::Refused(lower_of(why, second)),
+        Ok(()) => second,
+        Err(why) => Err(lower_of(why, second)),
     }
 }
 
@@ -46,40 +42,40 @@ pub const PANEL_SIZE: usize = 10;
 fn register(registers: &[u64], k: usize) -> u64
     ensures { result ≡ get_or registers.now k 0 }
 {
-    if k < registers.len() { registers[k] } else { 0 }
+    registers.get(k).copied().unwrap_or(0)
 }
 
 fn too_narrow(registers: &[u64], k: usize) -> bool
     ensures { result ≡ forms.overflows registers.now k }
 {
-    too_wide(machine::RESPONSE_BITS, register(registers, k))
+    too_wide(RESPONSE_BITS, register(registers, k))
 }
 
-pub fn check_panel(registers: &[u64]) -> Check
+pub fn check_panel(registers: &[u64]) -> Result<(), Refusal>
     ensures { result ≡ forms.panel_check registers.now }
 {
-    let wrong = refuse(Refusal::Size, registers.len() != PANEL_SIZE);
+    refuse(Refusal::Size, registers.len() != PANEL_SIZE)?;
     let narrow = too_narrow(registers, 5) | (too_narrow(registers, 6) | too_narrow(registers, 7));
-    machine::in_order(wrong, refuse(Refusal::PanelTooWide, narrow))
+    refuse(Refusal::PanelTooWide, narrow)
 }
 
 // What a register of 8 bits can't hold of its number is left out; a panel that has such a number is refused.
 pub fn panel_of(registers: &[u64]) -> Panel
     ensures { result ≡ forms.panel_in registers.now }
 {
-    let mut panel = Panel::blank();
-    panel.comp = register(registers, 0);
-    panel.sdr = register(registers, 1);
-    panel.sc1 = register(registers, 2);
-    panel.sc2 = register(registers, 3);
-    panel.mor = register(registers, 4);
-    panel.key = response_of(register(registers, 5));
-    panel.care = response_of(register(registers, 6));
-    panel.target = response_of(register(registers, 7));
-    let word = WordSlice(register(registers, 8) as usize);
-    panel.address = word;
-    panel.sc3 = register(registers, 9);
-    panel
+    Panel {
+        comp: register(registers, 0),
+        sdr: register(registers, 1),
+        sc1: register(registers, 2),
+        sc2: register(registers, 3),
+        mor: register(registers, 4),
+        key: response_of(register(registers, 5)),
+        care: response_of(register(registers, 6)),
+        target: response_of(register(registers, 7)),
+        address: WordSlice(register(registers, 8) as usize),
+        sc3: register(registers, 9),
+        ..Panel::blank()
+    }
 }
 
 // ---- the line byte
@@ -105,35 +101,28 @@ pub fn lines_of(lines: u8) -> Lines
     }
 }
 
-pub fn check_lines(lines: u8) -> Check
+pub fn check_lines(lines: u8) -> Result<(), Refusal>
     ensures { result ≡ forms.lines_check lines }
 {
     refuse(Refusal::WrongLines, is_raised(lines, 7))
-}
-
-fn bit_if(raised: bool, bit: u64) -> u64
-    requires { bit ≤ 64 }
-    ensures { (result ≡ bit * digit raised) × (result ≤ 64) }
-{
-    if raised { bit } else { 0 }
 }
 
 // The byte of the lines that a command raises.
 pub fn line_byte(lines: Lines) -> u64
     ensures { result ≡ forms.line_byte lines }
 {
-    bit_if(lines.search, 1)
-        + bit_if(lines.read, 2)
-        + bit_if(lines.write, 4)
-        + bit_if(lines.add, 8)
-        + bit_if(lines.multiwrite, 16)
-        + bit_if(lines.multiadd, 32)
-        + bit_if(lines.complement, 64)
+    u64::from(lines.search)
+        + 2 * u64::from(lines.read)
+        + 4 * u64::from(lines.write)
+        + 8 * u64::from(lines.add)
+        + 16 * u64::from(lines.multiwrite)
+        + 32 * u64::from(lines.multiadd)
+        + 64 * u64::from(lines.complement)
 }
 
 // ---- the answer
 
-pub fn check_room(numbers: usize, room: usize) -> Check
+pub fn check_room(numbers: usize, room: usize) -> Result<(), Refusal>
     ensures { result ≡ forms.room_check numbers room }
 {
     refuse(Refusal::NoRoom, room < numbers)
@@ -144,11 +133,7 @@ pub fn tell(answer: &mut [u64], numbers: &[u64])
     ensures { answer.new ≡ forms.tell_in numbers.now answer.old }
 {
     if numbers.len() <= answer.len() {
-        let mut i = 0;
-        while i < numbers.len() {
-            answer[i] = numbers[i];
-            i += 1;
-        }
+        answer[..numbers.len()].copy_from_slice(numbers);
     }
 }
 
@@ -162,24 +147,21 @@ pub fn number_of(why: Refusal) -> u32
 // What resolution and show answer.
 pub const RESOLVED_SIZE: usize = 4;
 
-pub fn tell_resolved(answer: &mut [u64], found: Resolved) -> u32
+pub fn tell_resolved(answer: &mut [u64], found: Result<Option<WordSlice>, Refusal>) -> u32
     ensures value { result ≡ (told found).refusal }
     ensures answer_after { answer.new ≡ forms.tell_in (forms.resolved_numbers (told found)) answer.old }
 {
     match found {
-        Resolved::At(word) => {
-            let numbers = [0, 0, 1, word.0 as u64];
-            tell(answer, &numbers);
+        Ok(Some(word)) => {
+            tell(answer, &[0, 0, 1, word.0 as u64]);
             0
         }
-        Resolved::Nothing => {
-            let numbers = [0, 0, 0, 0];
-            tell(answer, &numbers);
+        Ok(None) => {
+            tell(answer, &[0, 0, 0, 0]);
             0
         }
-        Resolved::Refused(why) => {
-            let numbers = [machine::number_of(why), machine::also_of(why), 0, 0];
-            tell(answer, &numbers);
+        Err(why) => {
+            tell(answer, &[machine::number_of(why), also_of(why), 0, 0]);
             number_of(why)
         }
     }

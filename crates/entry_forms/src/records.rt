@@ -7,16 +7,18 @@ ghost use Rattle.entry_forms.specs.Numbers.{tell_in};
 ghost use Rattle.entry_forms.specs.Records as forms;
 
 use image_layout::RECORD_SIZE;
-use job_plans::{Held, Job, Span};
-use machine::{BitSlice, Check, Refusal, ResponseBit, refuse};
+use image_parts::image_fields::job_at;
+use image_stores::{put, put_job};
+use job_plans::{Job, Span};
+use machine::{Refusal, ResponseBit, refuse};
 
-pub fn check_record(job: &[u8]) -> Check
+pub fn check_record(job: &[u8]) -> Result<(), Refusal>
     ensures { result ≡ forms.record_check job.now }
 {
     refuse(Refusal::Size, job.len() != RECORD_SIZE)
 }
 
-pub fn check_held(job: &[u8]) -> Check
+pub fn check_held(job: &[u8]) -> Result<(), Refusal>
     ensures { result ≡ forms.held_check job.now }
 {
     let n = job.len();
@@ -26,19 +28,15 @@ pub fn check_held(job: &[u8]) -> Check
 fn no_job() -> Job
     ensures { result ≡ job_of [] }
 {
-    let none = Span {
-        low: BitSlice(0),
-        width: 0,
-    };
     Job {
         kind: 0,
         key: 0,
         care: 0,
         x: ResponseBit(0),
         y: ResponseBit(0),
-        a: none,
-        b: none,
-        p: none,
+        a: Span::none(),
+        b: Span::none(),
+        p: Span::none(),
         phase: 0,
         i: 0,
         j: 0,
@@ -46,47 +44,40 @@ fn no_job() -> Job
     }
 }
 
-pub fn job_of(job: &[u8]) -> Job
-    ensures { result ≡ forms.job_in job.now }
-{
-    if job.len() == RECORD_SIZE {
-        image_parts::image_fields::job_at(job, 0)
-    } else {
-        no_job()
-    }
-}
-
-pub fn held_of(job: &[u8]) -> Held
+pub fn held_of(job: &[u8]) -> Option<Job>
     ensures { result ≡ forms.held_in job.now }
 {
     if job.len() == RECORD_SIZE {
-        Held::Holds(image_parts::image_fields::job_at(job, 0))
+        Some(job_at(job, 0))
     } else {
-        Held::Nothing
+        None
     }
 }
 
-pub fn count_held(held: Held) -> u64
+pub fn job_of(job: &[u8]) -> Job
+    ensures { result ≡ forms.job_in job.now }
+{
+    held_of(job).unwrap_or(no_job())
+}
+
+pub fn count_held(held: Option<Job>) -> u64
     ensures { result ≡ forms.count_held held }
 {
-    match held {
-        Held::Nothing => 0,
-        Held::Holds(_) => 1,
-    }
+    u64::from(held.is_some())
 }
 
-fn put_held(job: &mut [u8], held: Held) -> usize
+fn put_held(job: &mut [u8], held: Option<Job>) -> usize
     requires { record_size ≤ length job.old }
     ensures { job.new ≡ sets job.old 0 (forms.record_of held) }
 {
     match held {
-        Held::Nothing => image_stores::put(job, 0, RECORD_SIZE, 0),
-        Held::Holds(o) => image_stores::put_job(job, 0, o),
+        Some(o) => put_job(job, 0, o),
+        None => put(job, 0, RECORD_SIZE, 0),
     }
 }
 
 // All of it, or nothing where it has no room.
-pub fn put_record(job: &mut [u8], held: Held)
+pub fn put_record(job: &mut [u8], held: Option<Job>)
     ensures { job.new ≡ tell_in (forms.record_of held) job.old }
 {
     if RECORD_SIZE <= job.len() {
