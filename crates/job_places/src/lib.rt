@@ -23,7 +23,8 @@ fn at_place(o: Job) -> bool
 fn extreme_place(o: Job) -> bool
     ensures { result ≡ places.extreme_place o }
 {
-    ((o.phase == 0) & (o.i as u32 + 1 == o.a.width as u32)) | (at_place(o) & (o.i < o.a.width))
+    ((o.phase == 0) & (u32::from(o.i) + 1 == u32::from(o.a.width)))
+        | (at_place(o) & (o.i < o.a.width))
 }
 
 // "for place i from 0 below the smaller of the widths a and p"
@@ -37,8 +38,8 @@ fn scaled_place(o: Job) -> bool
 fn product_place(o: Job) -> bool
     ensures { result ≡ places.product_place o }
 {
-    let sum = o.i as u32 + o.j as u32;
-    let p = o.p.width as u32;
+    let sum = u32::from(o.i) + u32::from(o.j);
+    let p = u32::from(o.p.width);
     at_place(o) & (o.i < o.a.width) & (o.j < o.b.width) & (sum < p)
 }
 
@@ -47,11 +48,9 @@ fn in_table(o: Job) -> bool
     ensures { result ≡ places.in_table o }
 {
     match Kind::try_from(o.kind) {
-        Ok(kind) => match kind {
-            Kind::Greatest | Kind::Smallest => extreme_place(o),
-            Kind::ScaledAdd => scaled_place(o),
-            Kind::Product => product_place(o),
-        },
+        Ok(Kind::Greatest | Kind::Smallest) => extreme_place(o),
+        Ok(Kind::ScaledAdd) => scaled_place(o),
+        Ok(Kind::Product) => product_place(o),
         Err(_) => false,
     }
 }
@@ -104,11 +103,9 @@ pub fn first_of(o: Job) -> Job
     ensures { result ≡ places.first o }
 {
     match Kind::try_from(o.kind) {
-        Ok(kind) => match kind {
-            Kind::Greatest | Kind::Smallest => first_extreme(o),
-            Kind::ScaledAdd => first_scaled_add(o),
-            Kind::Product => first_product(o),
-        },
+        Ok(Kind::Greatest | Kind::Smallest) => first_extreme(o),
+        Ok(Kind::ScaledAdd) => first_scaled_add(o),
+        Ok(Kind::Product) => first_product(o),
         Err(_) => o,
     }
 }
@@ -234,13 +231,6 @@ pub fn none_held() -> Refusal
     Refusal::WrongJob
 }
 
-#[tactic(auto, using(machine::proofs::Refusals::handed))]
-fn check_step_held(width: u32, held: Option<Job>) -> Result<(), Refusal>
-    ensures { result ≡ places.step_held_check width held }
-{
-    check_held(width, held.ok_or(none_held())?)
-}
-
 #[tactic(auto, using(machine::proofs::Refusals::handed), unfolding(job_plans::specs::Places::step_check))]
 pub fn check_step(
     words: &[u64],
@@ -251,5 +241,5 @@ pub fn check_step(
     ensures { result ≡ places.step_check (machine width words.now responses.now) held }
 {
     machine::check_machine(words, responses, width)?;
-    check_step_held(width, held)
+    check_held(width, held.ok_or(none_held())?)
 }

@@ -1,5 +1,4 @@
 -- laws that the functions' proofs cite
-pub mod ByKind
 pub mod Fair
 pub mod Shifts
 pub mod Places

@@ -1,8 +1,8 @@
 -- A step that is not turned down: what holds of its machine and of its job.
-use Prim.Native.Nat.{ℕ, ◌≤◌, ◌<◌}
-use mathlib.Core.Path.{◌≡◌, sym, ap}
+use Prim.Native.Nat.{◌≤◌, ◌<◌}
+use mathlib.Core.Path.{◌≡◌}
 use native.Mathlib.Omega.{arith}
-use Rattle.std.specs.Prelude.{Some, None, Ok}
+use Rattle.std.specs.Prelude.{Some, Ok}
 use Rattle.machine.specs.Machine.{Machine}
 use Rattle.machine.specs.Refusals.{machine_check}
 use Rattle.machine.proofs.Refusals.{else_passed, sound, width_le}
@@ -29,8 +29,3 @@ module _ (m : Machine) (o : Job) (ok : step_check m (Some o) ≡ Ok tt) where
 
   pub few : (o.i < 64) × (o.j < 64)
   few = let r = room m.width o fair_held in (omega (arith, narrow, r.i), omega (arith, narrow, r.j))
-
-module _ (m : Machine) (h : Held) where
-  pub step_none : step_check m h ≡ Ok tt → h ≡ None → ⊥
-  step_none e d =
-      let b = (good m h e).held in let c = ap (step_held_check m.width) (sym d) in let z : ◌≡◌ {A = ℕ} 0 1 = cc in omega arith

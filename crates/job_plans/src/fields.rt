@@ -1,11 +1,18 @@
 // Document 02, request d: 20 to 25 of the fields that a job uses, and of those that it does not.
-ghost use Rattle.std.specs.Prelude.{◌≡◌};
-ghost use Rattle.job_plans.specs.Fields.{empty_check, beyond_check, overlaps, overlap_check, extreme_check, scaled_add_check, product_check, used_check, unused_zero_for, unused_zero, unused_check, greatest, scaledAdd, product};
+ghost use Rattle.std.specs.Prelude.{◌≡◌, ◌+◌};
+ghost use Rattle.job_plans.specs.Fields.{empty_check, beyond_check, overlaps, overlap_check, if_used, fields_check, used_check, unused_zero_for, unused_zero, unused_check, greatest, scaledAdd, product};
 
 use crate::{Job, Kind, Span};
 use machine::{Refusal, Syllable, check_apart, check_bit, check_care, refuse};
 
 // ---- used fields
+
+// The bit above a syllable's highest.
+fn end_of(s: Span) -> u32
+    ensures { result ≡ s.low.0 + s.width }
+{
+    u32::from(s.low.0) + u32::from(s.width)
+}
 
 // 20: "syllable empty"
 fn check_empty(name: Syllable, s: Span) -> Result<(), Refusal>
@@ -18,18 +25,14 @@ fn check_empty(name: Syllable, s: Span) -> Result<(), Refusal>
 fn check_beyond(n: u32, name: Syllable, s: Span) -> Result<(), Refusal>
     ensures { result ≡ beyond_check n name s }
 {
-    refuse(
-        Refusal::BeyondWord(name),
-        n < s.low.0 as u32 + s.width as u32,
-    )
+    refuse(Refusal::BeyondWord(name), n < end_of(s))
 }
 
 // 22: "result overlaps a source"
 fn overlap(s: Span, t: Span) -> bool
     ensures { result ≡ overlaps s t }
 {
-    ((s.low.0 as u32) < t.low.0 as u32 + t.width as u32)
-        & ((t.low.0 as u32) < s.low.0 as u32 + s.width as u32)
+    (u32::from(s.low.0) < end_of(t)) & (u32::from(t.low.0) < end_of(s))
 }
 
 fn check_overlap(p: Span, source: Syllable, s: Span) -> Result<(), Refusal>
@@ -38,58 +41,42 @@ fn check_overlap(p: Span, source: Syllable, s: Span) -> Result<(), Refusal>
     refuse(Refusal::Overlap(source), overlap(p, s))
 }
 
-// Each number once, "lowest first", and of one number "A before B before P".
-#[tactic(auto, using(machine::proofs::Refusals::handed), unfolding(crate::specs::Fields::extreme_check))]
-fn check_extreme(n: u32, o: Job) -> Result<(), Refusal>
-    ensures { result ≡ extreme_check n o }
+// Asked only if the field is used.
+fn if_used(used: bool, check: Result<(), Refusal>) -> Result<(), Refusal>
+    ensures { result ≡ if_used used check }
+{
+    if used { check } else { Ok(()) }
+}
+
+// Each number once, "lowest first", and of one number "A before B before P"; x, b and p say whether the job uses X, B and P.
+#[tactic(auto, using(machine::proofs::Refusals::handed))]
+fn check_fields(x: bool, b: bool, p: bool, n: u32, o: Job) -> Result<(), Refusal>
+    ensures { result ≡ fields_check x b p n o }
 {
     check_empty(Syllable::A, o.a)?;
+    if_used(b, check_empty(Syllable::B, o.b))?;
+    if_used(p, check_empty(Syllable::P, o.p))?;
     check_beyond(n, Syllable::A, o.a)?;
-    check_bit(o.x)?;
+    if_used(b, check_beyond(n, Syllable::B, o.b))?;
+    if_used(p, check_beyond(n, Syllable::P, o.p))?;
+    if_used(p, check_overlap(o.p, Syllable::A, o.a))?;
+    if_used(b, check_overlap(o.p, Syllable::B, o.b))?;
+    if_used(x, check_bit(o.x))?;
     check_bit(o.y)?;
-    check_apart(o.x, o.y)?;
-    check_care(o.care, o.x)?;
+    if_used(x, check_apart(o.x, o.y))?;
+    if_used(x, check_care(o.care, o.x))?;
     check_care(o.care, o.y)
 }
 
-#[tactic(auto, using(machine::proofs::Refusals::handed), unfolding(crate::specs::Fields::scaled_add_check))]
-fn check_scaled_add(n: u32, o: Job) -> Result<(), Refusal>
-    ensures { result ≡ scaled_add_check n o }
-{
-    check_empty(Syllable::A, o.a)?;
-    check_empty(Syllable::P, o.p)?;
-    check_beyond(n, Syllable::A, o.a)?;
-    check_beyond(n, Syllable::P, o.p)?;
-    check_overlap(o.p, Syllable::A, o.a)?;
-    check_bit(o.y)?;
-    check_care(o.care, o.y)
-}
-
-#[tactic(auto, using(machine::proofs::Refusals::handed), unfolding(crate::specs::Fields::product_check))]
-fn check_product(n: u32, o: Job) -> Result<(), Refusal>
-    ensures { result ≡ product_check n o }
-{
-    check_empty(Syllable::A, o.a)?;
-    check_empty(Syllable::B, o.b)?;
-    check_empty(Syllable::P, o.p)?;
-    check_beyond(n, Syllable::A, o.a)?;
-    check_beyond(n, Syllable::B, o.b)?;
-    check_beyond(n, Syllable::P, o.p)?;
-    check_overlap(o.p, Syllable::A, o.a)?;
-    check_overlap(o.p, Syllable::B, o.b)?;
-    check_bit(o.y)?;
-    check_care(o.care, o.y)
-}
-
-// "an unknown kind gets only 25"
-#[tactic(auto, using(machine::proofs::Refusals::handed), unfolding(crate::specs::Fields::used_check))]
+// Extremes use X, Y and A, a scaled add Y, A and P, a product Y, A, B and P; "an unknown kind gets only 25".
+#[tactic(auto, using(machine::proofs::Refusals::handed), unfolding(crate::specs::Fields::used_check, crate::specs::Fields::extreme_check, crate::specs::Fields::scaled_add_check, crate::specs::Fields::product_check))]
 pub fn check_used(n: u32, o: Job) -> Result<(), Refusal>
     ensures { result ≡ used_check n o }
 {
     match Kind::try_from(o.kind)? {
-        Kind::Greatest | Kind::Smallest => check_extreme(n, o),
-        Kind::ScaledAdd => check_scaled_add(n, o),
-        Kind::Product => check_product(n, o),
+        Kind::Greatest | Kind::Smallest => check_fields(true, false, false, n, o),
+        Kind::ScaledAdd => check_fields(false, false, true, n, o),
+        Kind::Product => check_fields(false, true, true, n, o),
     }
 }
 
@@ -121,11 +108,9 @@ fn unused_zero(o: Job) -> bool
     ensures { result ≡ unused_zero o }
 {
     match Kind::try_from(o.kind) {
-        Ok(kind) => match kind {
-            Kind::Greatest | Kind::Smallest => extreme_zero(o),
-            Kind::ScaledAdd => scaled_add_zero(o),
-            Kind::Product => product_zero(o),
-        },
+        Ok(Kind::Greatest | Kind::Smallest) => extreme_zero(o),
+        Ok(Kind::ScaledAdd) => scaled_add_zero(o),
+        Ok(Kind::Product) => product_zero(o),
         Err(_) => false,
     }
 }

@@ -52,9 +52,6 @@ pub zeros_is : (k v : ℕ) → v < 2 ^ k → count.ones (2 ^ k - 1 - v) ≡ zero
 zeros_is k v h =
     ones_is k (2 ^ k - 1 - v) (omega (arith, pow_pos k)) ∙ sum_like k (bit (2 ^ k - 1 - v)) (λ i. 1 - bit v i) (λ i g. not_bit k v i h g)
 
-pub ones_few : (v : ℕ) → v < 2 ^ 64 → count.ones v ≤ 64
-ones_few v h = count.ones-le 64 v h
-
 -- of no values the greatest is 0 and the smallest all ones, which add nothing
 pub any_ones : (k : ℕ) (vs : List ℕ) → if_any vs (ones k (greatest_of vs)) ≡ ones k (greatest_of vs)
 unfolding greatest_of count.ones count.ones_in

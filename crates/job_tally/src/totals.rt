@@ -2,7 +2,7 @@
 ghost use Rattle.std.specs.Prelude.{◌≡◌, true, false, ℕ, ◌+◌, ◌-◌, ◌*◌, ◌^◌, ◌≤◌, ◌<◌, min, max, ltb, length};
 ghost use Rattle.laws.specs.Bits.{pick, digit};
 ghost use Rattle.machine.specs.Machine.{machine, selected};
-ghost use Rattle.job_tally.specs.Totals.{sum_below, ones, zeros, value_of, values, greatest_of, smallest_of, pulses, is_first, first_check, total_check, total_of};
+ghost use Rattle.job_tally.specs.Totals.{sum_below, ones, zeros, value_of, values, greatest_of, smallest_of, pulses, is_first, total_check, total_of};
 
 use job_places::{check_step, is_at_first};
 use job_plans::{Job, Kind, Span};
@@ -15,8 +15,7 @@ fn value_of(s: Span, w: u64) -> u64
     requires { (0 < s.width) × (s.low.0 + s.width ≤ 64) }
     ensures { result ≡ value_of s w }
 {
-    let low = s.low.0;
-    (w >> low) & low_bits(s.width as u32)
+    (w >> s.low.0) & low_bits(u32::from(s.width))
 }
 
 fn further(small: bool, x: u64, y: u64) -> u64
@@ -62,7 +61,7 @@ fn smallest_pulses(words: &[u64], responses: &[Response], o: Job) -> u64
     requires width_nonzero { (0 < o.a.width) × (o.a.low.0 + o.a.width ≤ 64) }
     ensures { result ≡ 1 + o.a.width + zeros o.a.width (smallest_of (2 ^ o.a.width - 1) (values o words.now responses.now)) }
 {
-    let all = low_bits(o.a.width as u32);
+    let all = low_bits(u32::from(o.a.width));
     let smallest = extreme_of(words, responses, o, true, all);
     1 + u64::from(o.a.width) + u64::from((all - smallest).count_ones())
 }
@@ -94,12 +93,10 @@ fn pulses_of(words: &[u64], responses: &[Response], o: Job) -> u64
     ensures { (n : ℕ) → result ≡ pulses (machine n words.now responses.now) o }
 {
     match Kind::try_from(o.kind) {
-        Ok(kind) => match kind {
-            Kind::Greatest => greatest_pulses(words, responses, o),
-            Kind::Smallest => smallest_pulses(words, responses, o),
-            Kind::ScaledAdd => 2 * u64::from(o.a.width.min(o.p.width)),
-            Kind::Product => 2 * pairs_of(o.a.width, o.b.width, o.p.width),
-        },
+        Ok(Kind::Greatest) => greatest_pulses(words, responses, o),
+        Ok(Kind::Smallest) => smallest_pulses(words, responses, o),
+        Ok(Kind::ScaledAdd) => 2 * u64::from(o.a.width.min(o.p.width)),
+        Ok(Kind::Product) => 2 * pairs_of(o.a.width, o.b.width, o.p.width),
         Err(_) => 0,
     }
 }
@@ -112,12 +109,6 @@ fn is_first(held: Option<Job>) -> bool
     held.is_some_and(|o| is_at_first(o))
 }
 
-fn check_first(held: Option<Job>) -> Result<(), Refusal>
-    ensures { result ≡ first_check held }
-{
-    refuse(Refusal::WrongJob, !is_first(held))
-}
-
 #[tactic(auto, using(machine::proofs::Refusals::handed), unfolding(crate::specs::Totals::total_check))]
 pub fn check_total(
     words: &[u64],
@@ -128,7 +119,7 @@ pub fn check_total(
     ensures { result ≡ total_check (machine width words.now responses.now) held }
 {
     check_step(words, responses, width, held)?;
-    check_first(held)
+    refuse(Refusal::WrongJob, !is_first(held))
 }
 
 // Refused as a step is, and with 25 where the job does not stand at its first place.

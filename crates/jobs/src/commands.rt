@@ -115,27 +115,16 @@ fn trial(n: u32, o: Job) -> Command
     requires o_value { held_check n o ≡ Ok tt }
     ensures { result ≡ commands.trial (kind_of o.kind) o }
 {
+    let x = response_bit(o.x);
+    let a = bit_of(o.a, o.i);
     match Kind::try_from(o.kind) {
-        Ok(kind) => match kind {
-            Kind::Greatest => {
-                let x = response_bit(o.x);
-                let a = bit_of(o.a, o.i);
-                look(x, x, o.y, a, a)
-            }
-            Kind::Smallest => {
-                let x = response_bit(o.x);
-                let a = bit_of(o.a, o.i);
-                look(x, x, o.y, a, 0)
-            }
-            Kind::ScaledAdd => {
-                let a = bit_of(o.a, o.i);
-                look(o.key, o.care, o.y, a, a)
-            }
-            Kind::Product => {
-                let both = bit_of(o.a, o.i) | bit_of(o.b, o.j);
-                look(o.key, o.care, o.y, both, both)
-            }
-        },
+        Ok(Kind::Greatest) => look(x, x, o.y, a, a),
+        Ok(Kind::Smallest) => look(x, x, o.y, a, 0),
+        Ok(Kind::ScaledAdd) => look(o.key, o.care, o.y, a, a),
+        Ok(Kind::Product) => {
+            let both = a | bit_of(o.b, o.j);
+            look(o.key, o.care, o.y, both, both)
+        }
         Err(_) => look(0, 0, ResponseBit(0), 0, 0),
     }
 }
@@ -148,14 +137,12 @@ fn second(n: u32, o: Job) -> Command
     ensures { result ≡ commands.second (kind_of o.kind) o }
 {
     match Kind::try_from(o.kind) {
-        Ok(kind) => match kind {
-            Kind::Greatest | Kind::Smallest => {
-                let y = response_bit(o.y);
-                look(y, y, o.x, 0, 0)
-            }
-            Kind::ScaledAdd => plus(o.y, o.p, scaled(o.c, o.i, o.p.width)),
-            Kind::Product => plus(o.y, o.p, scaled(1, o.i + o.j, o.p.width)),
-        },
+        Ok(Kind::Greatest | Kind::Smallest) => {
+            let y = response_bit(o.y);
+            look(y, y, o.x, 0, 0)
+        }
+        Ok(Kind::ScaledAdd) => plus(o.y, o.p, scaled(o.c, o.i, o.p.width)),
+        Ok(Kind::Product) => plus(o.y, o.p, scaled(1, o.i + o.j, o.p.width)),
         Err(_) => look(0, 0, ResponseBit(0), 0, 0),
     }
 }

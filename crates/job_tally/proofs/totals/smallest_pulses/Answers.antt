@@ -10,5 +10,5 @@ returns c =
     let w = c.args.o.a.width in
     let e = c.extreme_of-smallest in
     let l = c.low_bits-all in
-    rw (c.from.ensures, c.from-2.ensures) (ap (λ (x : ℕ). 1 + w + x)
-    (ap (λ (x : ℕ). count.ones (x - e.result)) l.ensures ∙ sums.zeros_is w e.result e.ensures.1 ∙ ap (zeros w) e.ensures.0))
+    rw (c.from-2.ensures, c.from-3.ensures) (ap (λ (x : ℕ). 1 + w + x)
+    (ap (λ (x : ℕ). count.ones (x - e.result)) (rw c.from.ensures at l.ensures) ∙ sums.zeros_is w e.result e.ensures.1 ∙ ap (zeros w) e.ensures.0))

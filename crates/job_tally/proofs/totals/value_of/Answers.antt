@@ -5,4 +5,4 @@ use Rattle.job_tally.proofs.totals.value_of.Goals as goal
 
 pub returns : goal.returns
 returns c =
-    let a = c.args in rw c.low_bits.ensures (and_mask _ a.s.width ∙ extremes.value_is a.s a.w)
+    let a = c.args in rw (c.low_bits.ensures, c.from.ensures) (and_mask _ a.s.width ∙ extremes.value_is a.s a.w)

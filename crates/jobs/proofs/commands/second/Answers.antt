@@ -23,23 +23,23 @@ plus-requires c =
       width_nonzero = (g.some, omega (arith, g.fits, c.requires.n_bound), rw c.scaled.ensures (mod-lt _ (pow_pos c.args.o.p.width)));
     }
 
-pub scaled-requires-in-Product : goal.scaled-requires-in-Product
-scaled-requires-in-Product c =
+pub scaled-requires-in-Ok-Product : goal.scaled-requires-in-Ok-Product
+scaled-requires-in-Ok-Product c =
     let g = product_sum c.args.n c.args.o (fair_as c.args.n c.args.o product c.requires.o_value (search rules)) in
     (g.sum, omega (arith, g.fits, c.requires.n_bound))
 
-pub plus-requires-in-Product : goal.plus-requires-in-Product
-plus-requires-in-Product c =
+pub plus-requires-in-Ok-Product : goal.plus-requires-in-Ok-Product
+plus-requires-in-Ok-Product c =
     let g = product_sum c.args.n c.args.o (fair_as c.args.n c.args.o product c.requires.o_value (search rules)) in record {
       y_lt_response_bits = (room c.args.n c.args.o c.requires.o_value).y;
-      width_nonzero = (g.some, omega (arith, g.fits, c.requires.n_bound), rw c.scaled-in-Product.ensures (mod-lt _ (pow_pos c.args.o.p.width)));
+      width_nonzero = (g.some, omega (arith, g.fits, c.requires.n_bound), rw c.scaled-in-Ok-Product.ensures (mod-lt _ (pow_pos c.args.o.p.width)));
     }
 
-pub returns-in-Product : goal.returns-in-Product
-returns-in-Product c =
+pub returns-in-Ok-Product : goal.returns-in-Ok-Product
+returns-in-Ok-Product c =
     let o = c.args.o in
     let k : kind_of o.kind ≡ product = search rules in
     let s = product_sum c.args.n o (fair_as c.args.n o product c.requires.o_value k) in
-    c.plus-in-Product.ensures
-    ∙ ap {B = Command} (λ (v : ℕ). plus o.y o.p v) (c.scaled-in-Product.ensures ∙ shifts.one_shifted (o.i + o.j) o.p.width s.sum)
+    c.plus-in-Ok-Product.ensures
+    ∙ ap {B = Command} (λ (v : ℕ). plus o.y o.p v) (c.scaled-in-Ok-Product.ensures ∙ shifts.one_shifted (o.i + o.j) o.p.width s.sum)
     ∙ ap (λ (k : Kind). second k o) (sym k)
