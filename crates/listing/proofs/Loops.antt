@@ -6,11 +6,8 @@ use native.Mathlib.Numerals.{add-one}
 use native.Mathlib.Omega.{arith}
 use lib.ListN.{length}
 use Rattle.output.specs.Puts.{Puts}
-use Rattle.output.proofs.Puts.{Rest, all_left, one_less}
+use Rattle.output.proofs.Puts.{Rest, one_less}
 use Rattle.listing.specs.Lists.{entry_text, words_text}
-
-pub words_left : (words responses : List ℕ) (k at : ℕ) (out : List ℕ) → Rest (words_text k 0 words responses) at out (words_text (k - 0) 0 words responses) out at
-words_left words responses k at out = let e : k - 0 ≡ k = omega arith in rw e (all_left (words_text k 0 words responses) at out)
 
 module _ {s : List ℕ} {at : ℕ} {out₀ out : List ℕ} {n : ℕ} where
   pub words_less : (words responses : List ℕ) (k i : ℕ) (o : List ℕ) (m : ℕ) → i < k → length out ≡ length out₀ →

@@ -9,11 +9,10 @@ use lib.Dec.{ltb}
 use lib.ListN.{length, length-replicate, get_or, replicate}
 use lib.Seq.{sets, length-sets}
 use Rattle.laws.proofs.Digits.{tri}
-use Rattle.machine.specs.declared.Check.{Check}
-use Rattle.machine.specs.declared.Check.TheVariants as check
-use Rattle.machine.specs.Refusals.{change_by}
-use Rattle.image.specs.declared.Read.{Read}
-use Rattle.image.specs.declared.Read.TheVariants as read
+use Rattle.std.specs.Prelude.{Result, Ok, Err}
+use Rattle.machine.specs.declared.Refusal.{Refusal}
+use Rattle.machine.specs.Refusals.{Check, change_by}
+use Rattle.image.specs.declared.Loaded.{Loaded}
 use Rattle.image.specs.Calls.{read_of, words_read, responses_read}
 use Rattle.listing.specs.Lists.{word_text, entry_text, words_text, found_text, list_text}
 use Rattle.listing.proofs.Lengths.{Within, none, both, within, either, text, hex, two, number, refused}
@@ -34,13 +33,13 @@ unfolding words_text
 words zero i ws rs = none
 words (suc k) i ws rs = within (41 * (length ws - i)) (omega arith) (both (entry i ws rs) (words k (suc i) ws rs))
 
-found : (r : Read) (ws rs : List ℕ) → length ws ≡ 1024 → Within (found_text r ws rs) 42037
-found (read.Machine width n held) ws rs e = within 42037 (omega arith) (both (both (number "words " n) (number " width " width)) (words n 0 ws rs))
-found (read.Refused why) ws rs e = within 42037 (omega arith) (refused why)
+found : (r : Result Loaded Refusal) (ws rs : List ℕ) → length ws ≡ 1024 → Within (found_text r ws rs) 42037
+found (Ok m) ws rs e = within 42037 (omega arith) (both (both (number "words " m.words) (number " width " m.width)) (words m.words 0 ws rs))
+found (Err why) ws rs e = within 42037 (omega arith) (refused why)
 
 changed : (c : Check) (v ws : List ℕ) → length (change_by c (sets ws 0 v) ws) ≡ length ws
-changed check.Passed v ws = length-sets ws 0 v
-changed (check.Refused why) v ws = refl
+changed (Ok u) v ws = length-sets ws 0 v
+changed (Err why) v ws = refl
 
 words_kept : (bs ws rs : List ℕ) → length (words_read bs ws rs) ≡ length ws
 unfolding words_read

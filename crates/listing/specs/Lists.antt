@@ -1,11 +1,10 @@
 -- What the program `list` prints of an image (document 01, figure 13), what is printed of a refusal, and the parts of a line.
-use Rattle.std.specs.Prelude.{ℕ, zero, suc, ◌&&◌, List, [], ◌++◌, ltb, leb, eqb, length, get_or, replicate}
+use Rattle.std.specs.Prelude.{ℕ, zero, suc, ◌&&◌, List, [], ◌++◌, ltb, leb, eqb, length, get_or, replicate, Result, Ok, Err}
 use Prim.Native.String.{String}
 use Rattle.laws.specs.Bits.{pick}
 use Rattle.machine.specs.declared.Refusal.{Refusal}
 use Rattle.machine.specs.Refusals.{number_of, also_answers}
-use Rattle.image.specs.declared.Read.{Read}
-use Rattle.image.specs.declared.Read.TheVariants as read
+use Rattle.image.specs.declared.Loaded.{Loaded}
 use Rattle.image.specs.Calls.{read_of, words_read, responses_read}
 use Rattle.text.specs.Ascii.{ascii}
 use Rattle.output.specs.Digits.{pair, hex_digits, decimal_digits}
@@ -58,10 +57,10 @@ unfoldable pub words_text : ℕ → ℕ → List ℕ → List ℕ → List ℕ
 words_text zero i words responses = []
 words_text (suc k) i words responses = entry_text i words responses ++ words_text k (suc i) words responses
 
-abbrev pub found_text : Read → List ℕ → List ℕ → List ℕ
-found_text (read.Machine width n held) words responses =
-    named "words " n ++ named " width " width ++ words_text n 0 words responses
-found_text (read.Refused why) words responses = refusal_text why
+abbrev pub found_text : Result Loaded Refusal → List ℕ → List ℕ → List ℕ
+found_text (Ok m) words responses =
+    named "words " m.words ++ named " width " m.width ++ words_text m.words 0 words responses
+found_text (Err why) words responses = refusal_text why
 
 -- what the program `list` prints of an image, read into 1024 words and responses
 abbrev pub list_text : List ℕ → List ℕ

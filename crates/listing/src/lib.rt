@@ -3,21 +3,22 @@
 
 ghost use Rattle.std.specs.Prelude.{◌++◌};
 ghost use Rattle.output.specs.Puts.{Puts};
+ghost use Rattle.machine.specs.Refusals.{value_of};
 ghost use Rattle.listing.specs.Lists as lists;
 
-use image::Read;
-use machine::{Refusal, Response};
+use image::Loaded;
+use machine::{Refusal, Response, Syllable};
 
 // ---- refusals
 
-// A syllable's letter, by the value that names it.
-fn put_syllable(out: &mut [u8], at: usize, value: u64) -> usize
-    ensures { Puts (lists.syllable_text value) at out.old out.new result }
+// A syllable's letter.
+fn put_syllable(out: &mut [u8], at: usize, syllable: Syllable) -> usize
+    ensures { Puts (lists.syllable_text (value_of syllable)) at out.old out.new result }
 {
-    match value {
-        1 => output::put(out, at, b" A"),
-        2 => output::put(out, at, b" B"),
-        _ => output::put(out, at, b" P"),
+    match syllable {
+        Syllable::A => output::put(out, at, b" A"),
+        Syllable::B => output::put(out, at, b" B"),
+        Syllable::P => output::put(out, at, b" P"),
     }
 }
 
@@ -25,19 +26,15 @@ fn put_syllable(out: &mut [u8], at: usize, value: u64) -> usize
 pub fn put_refusal(out: &mut [u8], why: Refusal) -> usize
     ensures { Puts (lists.refusal_text why) 0 out.old out.new result }
 {
-    let number = machine::number_of(why);
-    let also = machine::also_of(why);
-    let n = output::put_named(out, 0, b"refused ", number);
-    if number == 3 {
-        return output::put_named(out, n, b" word ", also);
+    let n = output::put_named(out, 0, b"refused ", machine::number_of(why));
+    match why {
+        Refusal::WordTooWide(word) => output::put_named(out, n, b" word ", word.0 as u64),
+        Refusal::Malformed(place) => output::put_named(out, n, b" at ", place as u64),
+        Refusal::EmptySyllable(syllable) => put_syllable(out, n, syllable),
+        Refusal::BeyondWord(syllable) => put_syllable(out, n, syllable),
+        Refusal::Overlap(syllable) => put_syllable(out, n, syllable),
+        _ => n,
     }
-    if number == 9 {
-        return output::put_named(out, n, b" at ", also);
-    }
-    if (20 <= number) & (number <= 22) {
-        return put_syllable(out, n, also);
-    }
-    n
 }
 
 // ---- the list
@@ -61,40 +58,37 @@ fn put_line(out: &mut [u8], at: usize, i: usize, word: u64, response: Response) 
 fn put_entry(out: &mut [u8], at: usize, i: usize, words: &[u64], responses: &[Response]) -> usize
     ensures { Puts (lists.entry_text i words.now responses.now) at out.old out.new result }
 {
-    if i < words.len() {
-        if i < responses.len() {
-            return put_line(out, at, i, words[i], responses[i]);
-        }
+    match (words.get(i), responses.get(i)) {
+        (Some(word), Some(response)) => put_line(out, at, i, *word, *response),
+        _ => at,
     }
-    at
 }
 
 fn put_lines(out: &mut [u8], at: usize, words: &[u64], responses: &[Response], n: usize) -> usize
     ensures { Puts (lists.words_text n 0 words.now responses.now) at out.old out.new result }
 {
     let mut end = at;
-    let mut i: usize = 0;
-    while i < n {
+    for i in 0..n {
         end = put_entry(out, end, i, words, responses);
-        i += 1;
     }
     end
 }
 
-fn put_found(out: &mut [u8], found: Read, words: &[u64], responses: &[Response]) -> usize
+fn put_found(
+    out: &mut [u8],
+    found: Result<Loaded, Refusal>,
+    words: &[u64],
+    responses: &[Response],
+) -> usize
     ensures { Puts (lists.found_text found words.now responses.now) 0 out.old out.new result }
 {
     match found {
-        Read::Machine {
-            width,
-            words: n,
-            held: _,
-        } => {
-            let head = output::put_named(out, 0, b"words ", n as u64);
-            let at = output::put_named(out, head, b" width ", width as u64);
-            put_lines(out, at, words, responses, n)
+        Ok(loaded) => {
+            let head = output::put_named(out, 0, b"words ", loaded.words as u64);
+            let at = output::put_named(out, head, b" width ", u64::from(loaded.width));
+            put_lines(out, at, words, responses, loaded.words)
         }
-        Read::Refused(why) => put_refusal(out, why),
+        Err(why) => put_refusal(out, why),
     }
 }
 

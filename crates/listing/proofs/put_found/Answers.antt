@@ -1,10 +1,6 @@
 use Rattle.listing.specs.Lists.{named, words_text}
 use Rattle.output.proofs.Puts.{puts₃}
-use borrow.Author.Rules.{rules}
 use Rattle.listing.proofs.put_found.Goals as goal
 
-pub returns-in-Machine : goal.returns-in-Machine
-returns-in-Machine c = let s = c.args in rw c.in-Machine.is (puts₃ (named "words " _) (named " width " _) (words_text _ 0 s.words.now s.responses.now) 0 s.out.now c.put_named-head.ensures c.put_named-at.ensures c.put_lines.ensures)
-
-pub returns-in-Refused : goal.returns-in-Refused
-returns-in-Refused c = rw c.in-Refused.is c.put_refusal.ensures
+pub returns-in-Ok : goal.returns-in-Ok
+returns-in-Ok c = let s = c.args in let m = c.in-Ok.loaded in rw c.in-Ok.is (puts₃ (named "words " m.words) (named " width " m.width) (words_text m.words 0 s.words.now s.responses.now) 0 s.out.now c.put_named-head.ensures (rw c.from.ensures at c.put_named-at.ensures) c.put_lines.ensures)

@@ -3,7 +3,6 @@ use Rattle.output.specs.Digits.{hex_digits}
 use Rattle.output.specs.Digits.{pair}
 use Rattle.listing.specs.Lists.{named}
 use Rattle.listing.proofs.Answers.{spaced}
-use borrow.Author.Rules.{rules}
 use Rattle.listing.proofs.put_line.Goals as goal
 
 pub returns : goal.returns
