@@ -1,18 +1,18 @@
 -- Demand 2, of an add: "Each syllable becomes word plus addend modulo 2 to its width; no carry crosses a syllable's top", read syllable by syllable.
 use Prim.Native.Nat.{ℕ, zero, suc, ◌+◌, ◌*◌, ◌/◌, ◌%◌, ◌^◌, ◌≤◌, ◌<◌}
-use mathlib.Core.Path.{◌≡◌, refl, sym, ap, ◌∙◌}
-use mathlib.Core.Bool.{Bool, true, false, ◌&&◌, ◌||◌}
+use mathlib.Core.Path.{◌≡◌, sym, ap, ◌∙◌}
+use mathlib.Core.Bool.{true, false, ◌&&◌, ◌||◌}
 use mathlib.Core.List.{List, [], ◌∷◌}
 use native.Mathlib.Omega.{arith}
 use native.Mathlib.Nat.{mod-lt, mul-le-mul_right}
 use lib.Dec.{eqb}
 use lib.ListN.{length, get_or}
 use lib.Pow.{pow_pos, pow-add, high, low}
+use Rattle.std.specs.Prelude.{Ok}
 use Rattle.laws.specs.Bits.{bit}
 use Rattle.laws.proofs.Bits.{shifted, number_is}
 use Rattle.machine.specs.declared.Panel.{Panel}
 use Rattle.machine.specs.declared.Lines.{Lines}
-use Rattle.machine.specs.declared.Check.TheVariants.{Passed}
 use Rattle.machine.specs.Machine.{Machine, Syllable, tops, syllables, over, selected, response}
 use Rattle.machine.specs.Pulse.{addend, sums, added, word_after}
 use Rattle.machine.specs.Refusals.{pulse_check, after}
@@ -81,7 +81,7 @@ syllables_added (suc n) p w =
     read_off p w (syllables (suc n) p.sdr) 0 (suc n) 0 _ t (pow_pos 0) (from_is p w (syllables (suc n) p.sdr) 0 (suc n) t ∙ omega arith)
 
 -- so of each word that an accepted pulse adds to and does not write
-pub syllables_after : (m : Machine) (p : Panel) (l : Lines) → pulse_check m p l ≡ Passed → (k : ℕ) → k < length m.words
+pub syllables_after : (m : Machine) (p : Panel) (l : Lines) → pulse_check m p l ≡ Ok tt → (k : ℕ) → k < length m.words
     → (l.write && eqb k p.address.0 || l.multiwrite && selected p.key p.care (response m k)) ≡ false
     → (l.add && eqb k p.address.0 || l.multiadd && selected p.key p.care (response m k)) ≡ true
     → Each (IsSum p (get_or m.words k 0) (get_or (after m p l).words k 0)) (syllables m.width p.sdr)

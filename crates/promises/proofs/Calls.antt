@@ -3,28 +3,18 @@
 use Prim.Native.Nat.{ℕ, ◌<◌}
 use mathlib.Core.Path.{◌≡◌, refl, sym, ap, ◌∙◌}
 use mathlib.Core.Bool.{Bool, true, false, not}
-use lib.Dec.{ltb, eqb}
-use borrow.Author.Tests.{ltb-true, eqb-true}
+use lib.Dec.{ltb}
+use borrow.Author.Tests.{ltb-true}
 use mathlib.Core.List.{List, []}
 use native.Mathlib.Omega.{arith}
 use lib.ListN.{length}
-use seplogic.Ra.Ura.{Ura}
-use mir.Syntax.{w8, w64}
-use base.Logic.{SProp, ent}
-use prog.Memory.{Memory}
-use prog.Routine.{Routine}
-use types.Logic.{Logic}
-use contract.Monad.{Fun, fact, fact_mono}
 use contract.Lifetimes.{Lfts}
 use borrow.Fn.World.{ArgsD, ResD}
 use borrow.Fn.Kinds.{ended_of}
-use denote.Triple.Entry.{Args, Res}
-use denote.Triple.Clauses.{AtExit, Clauses}
+use denote.Triple.Clauses.{AtExit}
+use Rattle.std.specs.Prelude.{Result, Ok, Err}
 use Rattle.laws.specs.Bits.{pick}
 use Rattle.machine.specs.declared.Answer.{Answer}
-use Rattle.machine.specs.declared.Answer.TheVariants as done
-use Rattle.machine.specs.declared.Check.{Check}
-use Rattle.machine.specs.declared.Check.TheVariants.{Passed, Refused}
 use Rattle.machine.specs.declared.Lines.{Lines}
 use Rattle.machine.specs.declared.Panel.{Panel}
 use Rattle.machine.specs.declared.Refusal.{Refusal}
@@ -34,35 +24,26 @@ use Rattle.machine.specs.Machine.{Machine, machine, response_bits}
 use Rattle.machine.specs.Panel.{registers, load}
 use Rattle.machine.specs.Pulse as pulse
 use Rattle.machine.specs.Pulse.{count_of, pulsed}
-use Rattle.machine.specs.Refusals.{too_wide, machine_check, pulse_check, answer_by, change_by, answer_of, after}
+use Rattle.machine.specs.Refusals.{Check, too_wide, machine_check, pulse_check, answer_by, change_by, answer_of, after}
 use Rattle.machine.specs.Resolution.{resolved}
 use Rattle.machine.proofs.Loads.{held, load_that, load_no_other, same_panel}
 use Rattle.panel.specs.Numbered.{takes}
-use Rattle.explainer.specs.declared.Explained.TheVariants as explains
 use Rattle.explainer.specs.Reasons.{explain_check, reason_at, explained}
-use Rattle.resolver.specs.declared.Resolved.TheVariants as found
-use Rattle.resolver.specs.Answers.{as_resolved, resolution}
-use Rattle.rounds.specs.declared.Reply.TheVariants as reply
+use Rattle.resolver.specs.Answers.{resolution}
 use Rattle.rounds.specs.Round as rounds
 use Rattle.rounds.specs.Round.{shown, show_check, show_of, round_check, answer_check, reply_of, answered_at, after_answer}
-use Rattle.handout.specs.declared.Report.TheVariants as report
 use Rattle.handout.specs.Whole as whole_round
 use Rattle.handout.specs.Whole.{report_of, after_ended, after_round}
-use Rattle.job_plans.specs.declared.Held.{Held}
 use Rattle.job_plans.specs.declared.Job.{Job}
+use Rattle.job_plans.specs.Fields.{Held}
 use Rattle.job_plans.specs.Places as place
-use Rattle.job_tally.specs.declared.Total.TheVariants as tally
 use Rattle.job_tally.specs.Totals.{held_pulses, total_check, total_of}
-use Rattle.jobs.specs.declared.Started.TheVariants as started
 use Rattle.jobs.specs.declared.Stepped.{Stepped}
-use Rattle.jobs.specs.declared.Stepped.TheVariants as gives
-use Rattle.jobs.specs.Calls.{start_check, start_of, step_check, gave, step_of, machine_after, after_step}
+use Rattle.jobs.specs.Calls.{start_check, start_of, step_check, gave, given_by, step_of, machine_after, after_step}
 use Rattle.jobs.specs.Runs.{State, state, held_after, stepped}
 use Rattle.image_layout.specs.Format.{image_of}
 use Rattle.image_layout.specs.Reading.{state_in}
-use Rattle.image.specs.declared.Read.{Read}
-use Rattle.image.specs.declared.Read.TheVariants as back
-use Rattle.image.specs.declared.Wrote.TheVariants as wrote
+use Rattle.image.specs.declared.Loaded.{Loaded}
 use Rattle.image.specs.Calls.{write_check, write_of, written, read_check, read_of, words_read, responses_read}
 use Rattle.promises.proofs.Answered.{passes, tells_answer, tells_explained, tells_resolved, tells_report, tells_started, tells_stepped, tells_total, tells_wrote, tells_read, pulse_tells, explain_tells, resolution_tells, show_tells, answer_tells, round_tells, start_tells, step_tells, total_tells, write_tells, read_tells, pulse_unchanged, answer_unchanged, round_unchanged, step_unchanged, write_unchanged, read_unchanged}
 use Rattle.promises.proofs.Demand1.{Entry, first, given, machine_table, pulse_table, explain_table, show_table, answer_table, round_table, start_table, steps_table, total_table, write_table, read_table}
@@ -180,7 +161,7 @@ use Rattle.panel.proofs.takes.Reads as taking-reads
 pub record Answers {R : Type 0} (tell : R → ℕ × ℕ) (table : List Entry) (check : Check) (says done r : R) : Type 0 where
   pub answers : r ≡ says
   pub number : tell r ≡ first table
-  pub accepted : (tell r).0 ≡ 0 → (check ≡ Passed) × (r ≡ done)
+  pub accepted : (tell r).0 ≡ 0 → (check ≡ Ok tt) × (r ≡ done)
 
 -- of what is lent by &mut, `before` the call and `now`, where `left` is what the demands speak of: "nothing lent changes" where the answer's
 -- number is not 0
@@ -189,14 +170,14 @@ pub record Leaves {A : Type 0} (refusal : ℕ) (before left now : A) : Type 0 wh
   pub unchanged : (refusal ≡ 0 → ⊥) → now ≡ before
 
 answers_by : {R : Type 0} (tell : R → ℕ × ℕ) {table : List Entry} (check : Check) (says : R) {done : R} (r : R)
-    → tell says ≡ first table → given check ≡ first table → (check ≡ Passed → says ≡ done) → r ≡ says → Answers tell table check says done r
+    → tell says ≡ first table → given check ≡ first table → (check ≡ Ok tt → says ≡ done) → r ≡ says → Answers tell table check says done r
 answers_by tell check says r t g d e =
-    let p : (tell r).0 ≡ 0 → check ≡ Passed = λ z. passes check (ap (λ (x : ℕ × ℕ). x.0) (g ∙ sym t ∙ sym (ap tell e)) ∙ z) in
+    let p : (tell r).0 ≡ 0 → check ≡ Ok tt = λ z. passes check (ap (λ (x : ℕ × ℕ). x.0) (g ∙ sym t ∙ sym (ap tell e)) ∙ z) in
     record { answers = e; number = ap tell e ∙ t; accepted = λ z. (p z, e ∙ d (p z)) }
 
 -- what a call answers where its check is passed
-taken : {R : Type 0} (turned : Refusal → R) (done : R) (c : Check) → c ≡ Passed → answer_by c turned done ≡ done
-taken turned done c e = ap (λ (d : Check). answer_by d turned done) e
+taken : {A : Type 0} (done : A) (c : Check) → c ≡ Ok tt → answer_by c done ≡ Ok done
+taken done c e = ap (λ (d : Check). answer_by d done) e
 
 leaves_by : {A : Type 0} {before left now : A} {n k : ℕ × ℕ} → n ≡ k → ((k.0 ≡ 0 → ⊥) → left ≡ before) → now ≡ left → Leaves n.0 before left now
 leaves_by e u h = record { leaves = h; unchanged = λ z. h ∙ u (λ g. z (ap (λ (x : ℕ × ℕ). x.0) e ∙ g)) }
@@ -207,22 +188,24 @@ whole n ws rs m e f g = rw (← e, f, g)
 
 -- ---- the two machines: an outcome of a pulse on m with panel p and lines l, the answer r and the machine n afterwards
 
-abbrev pub Pulse : Machine → Panel → Lines → Answer → Machine → Type 0
-Pulse m p l r n = Answers tells_answer (pulse_table m p l) (pulse_check m p l) (answer_of m p l) (done.Done (count_of m p l) (pulse.read_of m p l)) r × Leaves (tells_answer r).0 m (after m p l) n
+abbrev pub Pulse : Machine → Panel → Lines → Result Answer Refusal → Machine → Type 0
+Pulse m p l r n =
+    Answers tells_answer (pulse_table m p l) (pulse_check m p l) (answer_of m p l) (Ok (record { count = count_of m p l; read = pulse.read_of m p l })) r
+    × Leaves (tells_answer r).0 m (after m p l) n
 
 same_width : (m : Machine) (p : Panel) (l : Lines) → (after m p l).width ≡ m.width
 unfolding after pulsed
 same_width m p l = go (pulse_check m p l)
   where
     go : (c : Check) → (change_by c (pulsed m p l) m).width ≡ m.width
-    go Passed = refl
-    go (Refused r) = refl
+    go (Ok tt) = refl
+    go (Err r) = refl
 
-pulse_done : (m : Machine) (p : Panel) (l : Lines) → pulse_check m p l ≡ Passed → answer_of m p l ≡ done.Done (count_of m p l) (pulse.read_of m p l)
+pulse_done : (m : Machine) (p : Panel) (l : Lines) → pulse_check m p l ≡ Ok tt → answer_of m p l ≡ Ok (record { count = count_of m p l; read = pulse.read_of m p l })
 unfolding answer_of
-pulse_done m p l = taken done.Refused _ (pulse_check m p l)
+pulse_done m p l = taken _ (pulse_check m p l)
 
-a_pulse : (m : Machine) (p : Panel) (l : Lines) (r : Answer) (ws rs : List ℕ) → r ≡ answer_of m p l → ws ≡ (after m p l).words → rs ≡ (after m p l).responses
+a_pulse : (m : Machine) (p : Panel) (l : Lines) (r : Result Answer Refusal) (ws rs : List ℕ) → r ≡ answer_of m p l → ws ≡ (after m p l).words → rs ≡ (after m p l).responses
     → Pulse m p l r (machine m.width ws rs)
 a_pulse m p l r ws rs e f g =
     let a = answers_by tells_answer (pulse_check m p l) (answer_of m p l) r (pulse_tells m p l) (pulse_given m p l) (pulse_done m p l) e in
@@ -246,16 +229,16 @@ wide_pulse_meets κs a r s h = a_pulse (machine a.1.1.0 a.0.now a.1.0.now) a.1.1
 
 -- ---- the explainer
 
-explain_done : (m : Machine) (p : Panel) (k : WordSlice) → explain_check m p k ≡ Passed → explained m p k ≡ reason_at m p k
+explain_done : (m : Machine) (p : Panel) (k : WordSlice) → explain_check m p k ≡ Ok tt → explained m p k ≡ Ok (reason_at m p k)
 unfolding explained
-explain_done m p k = taken explains.Refused _ (explain_check m p k)
+explain_done m p k = taken _ (explain_check m p k)
 
 pub explain_meets : (κs : Lfts 2) (a : ArgsD explain.signature κs) (r : ResD explain.signature κs) (s : AtExit (ended_of 2 explain-kinds.ps explain-kinds.r) κs)
     → explain-reads.Post κs a r s
     → let m = machine a.1.1.0 a.0.now a.1.0.now in
     let panel = a.1.1.1.0 in
     let word = a.1.1.1.1.0 in
-    Answers tells_explained (explain_table m panel word) (explain_check m panel word) (explained m panel word) (reason_at m panel word) r
+    Answers tells_explained (explain_table m panel word) (explain_check m panel word) (explained m panel word) (Ok (reason_at m panel word)) r
 explain_meets κs a r s h =
     let m = machine a.1.1.0 a.0.now a.1.0.now in
     let p = a.1.1.1.0 in
@@ -264,16 +247,16 @@ explain_meets κs a r s h =
 
 -- ---- resolution
 
-resolution_done : (key care : ℕ) (m : Machine) → machine_check m ≡ Passed → resolution key care m ≡ as_resolved (resolved key care m)
+resolution_done : (key care : ℕ) (m : Machine) → machine_check m ≡ Ok tt → resolution key care m ≡ Ok (resolved key care m)
 unfolding resolution
-resolution_done key care m = taken found.Refused _ (machine_check m)
+resolution_done key care m = taken _ (machine_check m)
 
 pub scan_meets : (κs : Lfts 2) (a : ArgsD scan.signature κs) (r : ResD scan.signature κs) (s : AtExit (ended_of 2 scan-kinds.ps scan-kinds.r) κs)
     → scan-reads.Post κs a r s
     → let m = machine a.1.1.0 a.0.now a.1.0.now in
     let key = a.1.1.1.0 in
     let care = a.1.1.1.1.0 in
-    Answers tells_resolved (machine_table m []) (machine_check m) (resolution key care m) (as_resolved (resolved key care m)) r
+    Answers tells_resolved (machine_table m []) (machine_check m) (resolution key care m) (Ok (resolved key care m)) r
 scan_meets κs a r s h =
     let m = machine a.1.1.0 a.0.now a.1.0.now in
     answers_by tells_resolved (machine_check m) (resolution a.1.1.1.0 a.1.1.1.1.0 m) r (resolution_tells a.1.1.1.0 a.1.1.1.1.0 m) (resolution_given m) (resolution_done a.1.1.1.0 a.1.1.1.1.0 m) h
@@ -283,30 +266,30 @@ pub network_meets : (κs : Lfts 2) (a : ArgsD network.signature κs) (r : ResD n
     → let m = machine a.1.1.0 a.0.now a.1.0.now in
     let key = a.1.1.1.0 in
     let care = a.1.1.1.1.0 in
-    Answers tells_resolved (machine_table m []) (machine_check m) (resolution key care m) (as_resolved (resolved key care m)) r
+    Answers tells_resolved (machine_table m []) (machine_check m) (resolution key care m) (Ok (resolved key care m)) r
 network_meets κs a r s h =
     let m = machine a.1.1.0 a.0.now a.1.0.now in
     answers_by tells_resolved (machine_check m) (resolution a.1.1.1.0 a.1.1.1.1.0 m) r (resolution_tells a.1.1.1.0 a.1.1.1.1.0 m) (resolution_given m) (resolution_done a.1.1.1.0 a.1.1.1.1.0 m) h
 
 -- ---- the round
 
-show_done : (x : ResponseBit) (m : Machine) → show_check x m ≡ Passed → show_of x m ≡ as_resolved (shown x m)
+show_done : (x : ResponseBit) (m : Machine) → show_check x m ≡ Ok tt → show_of x m ≡ Ok (shown x m)
 unfolding show_of
-show_done x m = taken found.Refused _ (show_check x m)
+show_done x m = taken _ (show_check x m)
 
-answer_done : (x f : ResponseBit) (k : WordSlice) (m : Machine) → answer_check x f k m ≡ Passed → reply_of x f k m ≡ reply.Taken
+answer_done : (x f : ResponseBit) (k : WordSlice) (m : Machine) → answer_check x f k m ≡ Ok tt → reply_of x f k m ≡ Ok tt
 unfolding reply_of
-answer_done x f k m = taken reply.Refused _ (answer_check x f k m)
+answer_done x f k m h = h
 
-round_done : (x f : ResponseBit) (vs : List ℕ) (m : Machine) → round_check x f m ≡ Passed → report_of x f vs m ≡ whole_round.ended x vs m
+round_done : (x f : ResponseBit) (vs : List ℕ) (m : Machine) → round_check x f m ≡ Ok tt → report_of x f vs m ≡ Ok (whole_round.ended x vs m)
 unfolding report_of
-round_done x f vs m = taken report.Refused _ (round_check x f m)
+round_done x f vs m = taken _ (round_check x f m)
 
 pub show_meets : (κs : Lfts 2) (a : ArgsD show.signature κs) (r : ResD show.signature κs) (s : AtExit (ended_of 2 show-kinds.ps show-kinds.r) κs)
     → show-reads.Post κs a r s
     → let m = machine a.1.1.0 a.0.now a.1.0.now in
     let x = a.1.1.1.0 in
-    Answers tells_resolved (show_table x m) (show_check x m) (show_of x m) (as_resolved (shown x m)) r
+    Answers tells_resolved (show_table x m) (show_check x m) (show_of x m) (Ok (shown x m)) r
 show_meets κs a r s h =
     let m = machine a.1.1.0 a.0.now a.1.0.now in
     let x = a.1.1.1.0 in
@@ -315,8 +298,8 @@ show_meets κs a r s h =
 -- an answer and a round change nothing but responses
 responses_only : (c : Check) (m : Machine) (qs rs : List ℕ) → rs ≡ (change_by c (machine m.width m.words qs) m).responses
     → machine m.width m.words rs ≡ change_by c (machine m.width m.words qs) m
-responses_only Passed m qs rs e = ap (machine m.width m.words) e
-responses_only (Refused why) m qs rs e = ap (machine m.width m.words) e
+responses_only (Ok tt) m qs rs e = ap (machine m.width m.words) e
+responses_only (Err why) m qs rs e = ap (machine m.width m.words) e
 
 pub answer_meets : (κs : Lfts 2) (a : ArgsD answer.signature κs) (r : ResD answer.signature κs) (s : AtExit (ended_of 2 answer-kinds.ps answer-kinds.r) κs)
     → answer-reads.Post κs a r s
@@ -325,7 +308,7 @@ pub answer_meets : (κs : Lfts 2) (a : ArgsD answer.signature κs) (r : ResD ans
     let f = a.1.1.1.1.0 in
     let k = a.1.1.1.1.1.0 in
     let v = a.1.1.1.1.1.1.0 in
-    Answers rounds.told (answer_table x f k m) (answer_check x f k m) (reply_of x f k m) reply.Taken r
+    Answers rounds.told (answer_table x f k m) (answer_check x f k m) (reply_of x f k m) (Ok tt) r
     × Leaves (rounds.told r).0 m (after_answer x f k v m) (machine m.width m.words s.1.0.now)
 unfolding after_answer
 answer_meets κs a r s h =
@@ -343,7 +326,7 @@ pub round_meets : (κs : Lfts 3) (a : ArgsD round.signature κs) (r : ResD round
     let x = a.1.1.1.0 in
     let f = a.1.1.1.1.0 in
     let vs = a.1.1.1.1.1.0.now in
-    Answers tells_report (round_table x f m) (round_check x f m) (report_of x f vs m) (whole_round.ended x vs m) r
+    Answers tells_report (round_table x f m) (round_check x f m) (report_of x f vs m) (Ok (whole_round.ended x vs m)) r
     × Leaves (tells_report r).0 m (after_round x f vs m) (machine m.width m.words s.1.0.now)
 unfolding after_round after_ended
 round_meets κs a r s h =
@@ -356,24 +339,24 @@ round_meets κs a r s h =
 
 -- ---- jobs
 
-start_done : (m : Machine) (h : Held) (o : Job) → start_check m h o ≡ Passed → start_of m h o ≡ started.Holds (place.first o)
+start_done : (m : Machine) (h : Held) (o : Job) → start_check m h o ≡ Ok tt → start_of m h o ≡ Ok (place.first o)
 unfolding start_of
-start_done m h o = taken started.Refused _ (start_check m h o)
+start_done m h o = taken _ (start_check m h o)
 
-step_done : (m : Machine) (h : Held) → step_check m h ≡ Passed → step_of m h ≡ gave m h
+step_done : (m : Machine) (h : Held) → step_check m h ≡ Ok tt → step_of m h ≡ gave m h
 unfolding step_of
-step_done m h = taken gives.Refused _ (step_check m h)
+step_done m h e = ap (λ (c : Check). given_by c (gave m h)) e
 
-total_done : (m : Machine) (h : Held) → total_check m h ≡ Passed → total_of m h ≡ tally.Pulses (held_pulses m h)
+total_done : (m : Machine) (h : Held) → total_check m h ≡ Ok tt → total_of m h ≡ Ok (held_pulses m h)
 unfolding total_of
-total_done m h = taken tally.Refused _ (total_check m h)
+total_done m h = taken _ (total_check m h)
 
 pub start_meets : (κs : Lfts 2) (a : ArgsD start.signature κs) (r : ResD start.signature κs) (s : AtExit (ended_of 2 start-kinds.ps start-kinds.r) κs)
     → start-reads.Post κs a r s
     → let m = machine a.1.1.0 a.0.now a.1.0.now in
     let held = a.1.1.1.0 in
     let offered = a.1.1.1.1.0 in
-    Answers tells_started (start_table m held offered) (start_check m held offered) (start_of m held offered) (started.Holds (place.first offered)) r
+    Answers tells_started (start_table m held offered) (start_check m held offered) (start_of m held offered) (Ok (place.first offered)) r
 start_meets κs a r s h =
     let m = machine a.1.1.0 a.0.now a.1.0.now in
     let held = a.1.1.1.0 in
@@ -385,16 +368,16 @@ step_width : (m : Machine) (h : Held) → (after_step m h).width ≡ m.width
 unfolding after_step pulsed
 step_width m h = go (step_of m h)
   where
-    go : (q : Stepped) → (machine_after q m).width ≡ m.width
-    go (gives.Gave k c g) = refl
-    go (gives.Refused why) = refl
+    go : (q : Result Stepped Refusal) → (machine_after q m).width ≡ m.width
+    go (Ok given) = refl
+    go (Err why) = refl
 
 held_still : (m : Machine) (h : Held) → ((tells_stepped (step_of m h)).0 ≡ 0 → ⊥) → held_after (step_of m h) h ≡ h
 held_still m h = go (step_of m h)
   where
-    go : (q : Stepped) → ((tells_stepped q).0 ≡ 0 → ⊥) → held_after q h ≡ h
-    go (gives.Gave k c g) z = absurd (z refl)
-    go (gives.Refused why) z = refl
+    go : (q : Result Stepped Refusal) → ((tells_stepped q).0 ≡ 0 → ⊥) → held_after q h ≡ h
+    go (Ok given) z = absurd (z refl)
+    go (Err why) z = refl
 
 both : (m n : Machine) (h g : Held) → m ≡ n → h ≡ g → ◌≡◌ {A = State} (record { machine = m; held = h }) (record { machine = n; held = g })
 both m n h g e f = rw (e, f)
@@ -414,14 +397,14 @@ step_meets κs a r s h =
     let t = step_tells m held in (
       b,
       leaves_by b.number (λ z. both (after_step m held) m _ held (step_unchanged m held z) (held_still m held (λ y. z (sym (ap (λ (x : ℕ × ℕ). x.0) t) ∙ y))))
-          (both (machine m.width s.0.now s.1.0.now) (after_step m held) _ _ (whole m.width s.0.now s.1.0.now (after_step m held) (step_width m held) h.1.0 h.1.1) (ap (λ (q : Stepped). held_after q held) h.0)),
+          (both (machine m.width s.0.now s.1.0.now) (after_step m held) _ _ (whole m.width s.0.now s.1.0.now (after_step m held) (step_width m held) h.1.0 h.1.1) (ap (λ (q : Result Stepped Refusal). held_after q held) h.0)),
     )
 
 pub total_meets : (κs : Lfts 2) (a : ArgsD total.signature κs) (r : ResD total.signature κs) (s : AtExit (ended_of 2 total-kinds.ps total-kinds.r) κs)
     → total-reads.Post κs a r s
     → let m = machine a.1.1.0 a.0.now a.1.0.now in
     let held = a.1.1.1.0 in
-    Answers tells_total (total_table m held) (total_check m held) (total_of m held) (tally.Pulses (held_pulses m held)) r
+    Answers tells_total (total_table m held) (total_check m held) (total_of m held) (Ok (held_pulses m held)) r
 total_meets κs a r s h =
     let m = machine a.1.1.0 a.0.now a.1.0.now in
     let held = a.1.1.1.0 in
@@ -429,23 +412,23 @@ total_meets κs a r s h =
 
 -- ---- the image
 
-write_done : (m : State) (room : ℕ) → write_check m room ≡ Passed → write_of m room ≡ wrote.Length (length (image_of m))
+write_done : (m : State) (room : ℕ) → write_check m room ≡ Ok tt → write_of m room ≡ Ok (length (image_of m))
 unfolding write_of
-write_done m room = taken wrote.Refused _ (write_check m room)
+write_done m room = taken _ (write_check m room)
 
 -- the answer for the machine that an image stands for
-abbrev pub machine_in : State → Read
-machine_in m = back.Machine m.machine.width (length m.machine.words) m.held
+abbrev pub machine_in : State → Loaded
+machine_in m = record { width = m.machine.width; words = length m.machine.words; held = m.held }
 
-read_done : (image : List ℕ) (words responses : ℕ) → read_check image words responses ≡ Passed → read_of image words responses ≡ machine_in (state_in image)
+read_done : (image : List ℕ) (words responses : ℕ) → read_check image words responses ≡ Ok tt → read_of image words responses ≡ Ok (machine_in (state_in image))
 unfolding read_of
-read_done image words responses = taken back.Refused _ (read_check image words responses)
+read_done image words responses = taken _ (read_check image words responses)
 
 pub write_meets : (κs : Lfts 3) (a : ArgsD write.signature κs) (r : ResD write.signature κs) (s : AtExit (ended_of 3 write-kinds.ps write-kinds.r) κs)
     → write-reads.Post κs a r s
     → let m = state a.1.1.0 a.0.now a.1.0.now a.1.1.1.0 in
     let out = a.1.1.1.1.0.now in
-    Answers tells_wrote (write_table m (length out)) (write_check m (length out)) (write_of m (length out)) (wrote.Length (length (image_of m))) r
+    Answers tells_wrote (write_table m (length out)) (write_check m (length out)) (write_of m (length out)) (Ok (length (image_of m))) r
     × Leaves (tells_wrote r).0 out (written m out) s.1.1.1.1.0.now
 write_meets κs a r s h =
     let m = state a.1.1.0 a.0.now a.1.0.now a.1.1.1.0 in
@@ -458,7 +441,7 @@ pub read_meets : (κs : Lfts 3) (a : ArgsD read.signature κs) (r : ResD read.si
     → let image = a.0.now in
     let ws = a.1.0.now in
     let rs = a.1.1.0.now in
-    Answers tells_read (read_table image (length ws) (length rs)) (read_check image (length ws) (length rs)) (read_of image (length ws) (length rs)) (machine_in (state_in image)) r
+    Answers tells_read (read_table image (length ws) (length rs)) (read_check image (length ws) (length rs)) (read_of image (length ws) (length rs)) (Ok (machine_in (state_in image))) r
     × Leaves (tells_read r).0 ws (words_read image ws rs) s.1.0.now
     × Leaves (tells_read r).0 rs (responses_read image ws rs) s.1.1.0.now
 read_meets κs a r s h =

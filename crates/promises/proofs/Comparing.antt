@@ -10,31 +10,26 @@ use contract.Lifetimes.{Lfts}
 use borrow.Fn.World.{ArgsD, ResD}
 use borrow.Fn.Kinds.{ended_of}
 use denote.Triple.Clauses.{AtExit}
+use Rattle.std.specs.Prelude.{Some, None, Result, Ok, Err}
 use Rattle.laws.specs.Bits.{every, pick}
 use Rattle.laws.proofs.Bits.{every_like, every_all, every_at}
 use Rattle.machine.specs.declared.Panel.{Panel}
 use Rattle.machine.specs.declared.Lines.{Lines}
+use Rattle.machine.specs.declared.Refusal.{Refusal}
 use Rattle.machine.specs.declared.Code.{Code}
 use Rattle.machine.specs.declared.Code.TheVariants.{DontCare, Exact, Larger, Smaller}
-use Rattle.machine.specs.declared.Check.TheVariants.{Passed}
 use Rattle.machine.specs.Machine.{Machine, machine, Syllable, is_top, down_from}
 use Rattle.machine.specs.Search.{code_at, by_code, each_code, or_equal, one_code, unmixed, cared, read_over, asks, satisfied}
-use Rattle.machine.specs.Refusals.{bad_codes, pulse_check}
+use Rattle.machine.specs.Refusals.{Check, bad_codes, pulse_check}
 use Rattle.machine.proofs.Refusals as checks
 use Rattle.machine.proofs.Search.{unset, unmixed_is}
 use Rattle.machine.proofs.Codes.{is_cared, one_code_lem, one_setting_lem}
 use Rattle.machine.proofs.Machine.{all_down}
 use Rattle.job_plans.specs.declared.Job.{Job}
-use Rattle.job_plans.specs.declared.Held.{Held}
-use Rattle.job_plans.specs.declared.Held.TheVariants as held
-use Rattle.job_plans.specs.Fields.{Kind, greatest, smallest, scaledAdd, product, unknown, kind_of}
+use Rattle.job_plans.specs.Fields.{Held, Kind, greatest, smallest, scaledAdd, product, unknown, kind_of}
 use Rattle.job_plans.specs.Commands.{opening, trial, second, command}
 use Rattle.jobs.specs.declared.Stepped.{Stepped}
-use Rattle.jobs.specs.declared.Stepped.TheVariants as gives
-use Rattle.jobs.specs.Calls.{step_check, gave, step_of, told_stepped}
-use Rattle.machine.specs.declared.Check.{Check}
-use Rattle.machine.specs.declared.Check.TheVariants as check
-use Rattle.machine.specs.Refusals.{answer_by}
+use Rattle.jobs.specs.Calls.{step_check, gave, given_by, step_of, told_stepped}
 use Rattle.jobs.specs.contracts.step as step
 use Rattle.jobs.proofs.step.Kinds as step-kinds
 use Rattle.jobs.proofs.step.Reads as step-reads
@@ -75,7 +70,7 @@ module _ (p : Panel) (y : Syllable) (fair : unmixed p y ≡ true) where
 
 -- ---- of an accepted search, and each of its syllables: the one whose top bit is bit i
 
-module _ (m : Machine) (p : Panel) (l : Lines) (accepted : pulse_check m p l ≡ Passed) (raised : l.search ≡ true)
+module _ (m : Machine) (p : Panel) (l : Lines) (accepted : pulse_check m p l ≡ Ok tt) (raised : l.search ≡ true)
     (i : ℕ) (within : i < m.width) (top : is_top m.width p.sdr i ≡ true) where
   abbrev y : Syllable
   y = down_from p.sdr i
@@ -153,12 +148,12 @@ unfolding step_of
 step_sc3 κs a r s h =
     let m = machine a.1.1.0 a.0.now a.1.0.now in
     let o = a.1.1.1.0 in
-    ap (λ (q : Stepped). (told_stepped q).given.panel.sc3) h.0 ∙ answered (step_check m o) m o
+    ap (λ (q : Result Stepped Refusal). (told_stepped q).given.panel.sc3) h.0 ∙ answered (step_check m o) m o
   where
     given : (m : Machine) (h : Held) → (told_stepped (gave m h)).given.panel.sc3 ≡ 0
-    given m held.Nothing = refl
-    given m (held.Holds o) = command_sc3 o
+    given m None = refl
+    given m (Some o) = command_sc3 o
 
-    answered : (c : Check) (m : Machine) (h : Held) → (told_stepped (answer_by c gives.Refused (gave m h))).given.panel.sc3 ≡ 0
-    answered check.Passed m h = given m h
-    answered (check.Refused why) m h = refl
+    answered : (c : Check) (m : Machine) (h : Held) → (told_stepped (given_by c (gave m h))).given.panel.sc3 ≡ 0
+    answered (Ok tt) m h = given m h
+    answered (Err why) m h = refl

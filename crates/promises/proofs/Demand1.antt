@@ -7,35 +7,28 @@ use mathlib.Core.Bool.{Bool, true, false, not, ◌||◌}
 use lib.Dec.{ltb, leb, eqb}
 use mathlib.Core.List.{List, [], ◌∷◌}
 use lib.ListN.{length}
+use Rattle.std.specs.Prelude.{Option, Some, None, Ok, Err}
 use Rattle.laws.specs.Bits.{pick}
 use Rattle.laws.specs.Lists.{all}
 use Rattle.machine.specs.declared.Panel.{Panel}
 use Rattle.machine.specs.declared.Lines.{Lines}
 use Rattle.machine.specs.declared.WordSlice.{WordSlice}
 use Rattle.machine.specs.declared.ResponseBit.{ResponseBit}
-use Rattle.machine.specs.declared.Found.{Found}
-use Rattle.machine.specs.declared.Found.TheVariants.{At, Nothing}
 use Rattle.machine.specs.declared.Syllable.{Syllable}
 use Rattle.machine.specs.declared.Syllable.TheVariants.{A, B, P}
-use Rattle.machine.specs.declared.Check.{Check}
-use Rattle.machine.specs.declared.Check.TheVariants.{Passed, Refused}
 use Rattle.machine.specs.Machine.{Machine, response_bits, syllables}
 use Rattle.machine.specs.Search.{unmixed}
 use Rattle.machine.specs.Resolution.{lowest}
-use Rattle.machine.specs.Refusals.{bad_size, bad_width, too_wide, bad_panel, bad_codes, bad_lines, bad_address, in_care, value_of, tells}
+use Rattle.machine.specs.Refusals.{Check, bad_size, bad_width, too_wide, bad_panel, bad_codes, bad_lines, bad_address, in_care, value_of, tells}
 use Rattle.job_plans.specs.declared.Span.{Span}
 use Rattle.job_plans.specs.declared.Job.{Job}
-use Rattle.job_plans.specs.declared.Held.{Held}
-use Rattle.job_plans.specs.declared.Held.TheVariants as held
-use Rattle.job_plans.specs.Fields.{Kind, greatest, smallest, scaledAdd, product, unknown, kind_of, overlaps, unused_zero}
+use Rattle.job_plans.specs.Fields.{Held, Kind, greatest, smallest, scaledAdd, product, unknown, kind_of, overlaps, unused_zero}
 use Rattle.job_plans.specs.Places.{in_table}
 use Rattle.jobs.specs.Calls.{is_held}
 use Rattle.job_tally.specs.Totals.{is_first}
 use Rattle.jobs.specs.Runs.{State}
-use Rattle.image_layout.specs.declared.Scanned.{Scanned}
-use Rattle.image_layout.specs.declared.Scanned.TheVariants.{Sound, Broken}
 use Rattle.image_layout.specs.Format.{image_of, held_jobs}
-use Rattle.image_layout.specs.Reading.{words_in, scanned}
+use Rattle.image_layout.specs.Reading.{Scanned, words_in, scanned}
 use Rattle.rounds.specs.Round.{other_than, shown}
 
 -- ---- a call's part of the table: the numbers it is checked for, in order, each with its condition and what it "also answers"
@@ -54,15 +47,15 @@ first [] = (0, 0)
 first (e ∷ es) = pick e.holds (e.number, e.also) (first es)
 
 -- 3: "lowest such word"
-abbrev pub word_of : Found → ℕ
-word_of (At k) = k.0
-word_of Nothing = 0
+abbrev pub word_of : Option WordSlice → ℕ
+word_of (Some k) = k.0
+word_of None = 0
 
-abbrev pub is_found : Found → Bool
-is_found (At k) = true
-is_found Nothing = false
+abbrev pub is_found : Option WordSlice → Bool
+is_found (Some k) = true
+is_found None = false
 
-abbrev pub stray : Found → Entry
+abbrev pub stray : Option WordSlice → Entry
 stray f = record { number = 3; also = word_of f; holds = is_found f }
 
 -- 1 to 3, with which every call's table begins but that of reading, and then the rest
@@ -145,8 +138,8 @@ held_table n o rest = used_table (kind_of o.kind) n o (wrong_job (not (unused_ze
 
 -- "step while none is"
 abbrev pub step_table : ℕ → Held → List Entry → List Entry
-step_table n held.Nothing rest = wrong_job true ∷ rest
-step_table n (held.Holds o) rest = held_table n o rest
+step_table n None rest = wrong_job true ∷ rest
+step_table n (Some o) rest = held_table n o rest
 
 -- every held job, of an image
 abbrev pub jobs_table : ℕ → List Job → List Entry → List Entry
@@ -181,8 +174,8 @@ write_table s room =
 
 -- 9: its "place"
 abbrev pub malformed : Scanned → Entry
-malformed Sound = record { number = 9; also = 0; holds = false }
-malformed (Broken at) = record { number = 9; also = at; holds = true }
+malformed (Ok tt) = record { number = 9; also = 0; holds = false }
+malformed (Err at) = record { number = 9; also = at; holds = true }
 
 abbrev pub read_table : List ℕ → ℕ → ℕ → List Entry
 read_table bs words responses =
@@ -190,5 +183,5 @@ read_table bs words responses =
 
 -- the number that a check gives and what it also answers, 0 if it is passed
 abbrev pub given : Check → ℕ × ℕ
-given Passed = (0, 0)
-given (Refused r) = tells r
+given (Ok tt) = (0, 0)
+given (Err r) = tells r

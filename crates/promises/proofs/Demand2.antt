@@ -11,6 +11,7 @@ use borrow.Fn.Kinds.{ended_of}
 use denote.Triple.Clauses.{AtExit}
 use mathlib.Core.List.{List, ◌∷◌, ◌++◌}
 use lib.ListN.{length, take, get_or}
+use Rattle.std.specs.Prelude.{Some, None, Ok, Err}
 use Rattle.laws.specs.Bits.{bit, pick, digit}
 use Rattle.laws.proofs.Digits.{bit_lt}
 use Rattle.laws.proofs.Bits.{digit_at, number_bit}
@@ -18,19 +19,16 @@ use Rattle.laws.specs.Lists.{all}
 use Rattle.laws.proofs.Lists.{at_zip}
 use Rattle.machine.specs.declared.Panel.{Panel}
 use Rattle.machine.specs.declared.Lines.{Lines}
-use Rattle.machine.specs.declared.Check.TheVariants.{Passed}
 use Rattle.machine.specs.Machine.{Machine, response_bits, syllables, selected}
 use Rattle.machine.specs.Search.{unmixed, matches, marked}
 use Rattle.machine.specs.Cells.{cells_match}
 use Rattle.machine.specs.Pulse.{word_after, response_after, pulsed}
 use Rattle.machine.specs.declared.WordSlice.{WordSlice}
-use Rattle.machine.specs.declared.Found.TheVariants.{At, Nothing}
 use Rattle.machine.specs.Resolution.{resolved}
 use Rattle.machine.specs.Refusals.{pulse_check, after}
 use Rattle.machine.proofs.Refusals as checks
 use Rattle.machine.proofs.Cells.{cells_match_lem}
 use Rattle.jobs.specs.Runs.{State}
-use Rattle.image_layout.specs.declared.Scanned.TheVariants.{Sound, Broken}
 use Rattle.image_layout.specs.Format.{image_of}
 use Rattle.image_layout.specs.Reading.{scanned, fields_of, state_in}
 use Rattle.image_layout.specs.Format.{AreBytes}
@@ -61,7 +59,7 @@ marked_digit t b h = go (eqb t 1) b h
     go true false h = omega arith
     go false b h = h
 
-module _ (m : Machine) (p : Panel) (l : Lines) (accepted : pulse_check m p l ≡ Passed) where
+module _ (m : Machine) (p : Panel) (l : Lines) (accepted : pulse_check m p l ≡ Ok tt) where
   same_length : length m.responses ≡ length m.words
   same_length = checks.size_same _ _ (checks.clean m p l accepted).sound.size
 
@@ -106,13 +104,13 @@ resolutions_agree κs a r r' s s' h g = h ∙ sym g
 
 -- "The lowest-numbered selected word, or none exactly if no word is selected"
 pub none_exactly : (key care : ℕ) (m : Machine)
-    → (resolved key care m ≡ Nothing → NonePasses (selected key care) m.responses)
-    × (NonePasses (selected key care) m.responses → resolved key care m ≡ Nothing)
+    → (resolved key care m ≡ None → NonePasses (selected key care) m.responses)
+    × (NonePasses (selected key care) m.responses → resolved key care m ≡ None)
 none_exactly = resolved_none
 
 pub lowest_exactly : (key care : ℕ) (m : Machine) (w : WordSlice)
-    → (resolved key care m ≡ At w → LowestAt (selected key care) m.responses w.0)
-    × (LowestAt (selected key care) m.responses w.0 → resolved key care m ≡ At w)
+    → (resolved key care m ≡ Some w → LowestAt (selected key care) m.responses w.0)
+    × (LowestAt (selected key care) m.responses w.0 → resolved key care m ≡ Some w)
 lowest_exactly = resolved_word
 
 -- ---- "An image read back is the machine stored; each machine has one image": `Stored s` says that writing does not turn s down for want of
@@ -123,11 +121,11 @@ pub stored_comes_back : {output words responses image : List ℕ} {s t : State} 
 stored_comes_back = stored_then_resumed
 
 -- what was written reads back as the same machine, its held job included
-pub read_back : (s : State) → Stored s → (scanned (image_of s) ≡ Sound) × (state_in (image_of s) ≡ s)
+pub read_back : (s : State) → Stored s → (scanned (image_of s) ≡ Ok tt) × (state_in (image_of s) ≡ s)
 read_back = round_trip
 
 -- bytes that read as machine s are the one image of s
-pub one_image_each : (b : List ℕ) (s : State) → AreBytes b → scanned b ≡ Sound → state_in b ≡ s → b ≡ image_of s
+pub one_image_each : (b : List ℕ) (s : State) → AreBytes b → scanned b ≡ Ok tt → state_in b ≡ s → b ≡ image_of s
 one_image_each = one_image
 
 -- so two machines with one image are equal
@@ -135,17 +133,17 @@ pub one_machine_each : (s t : State) → Stored s → Stored t → image_of s �
 one_machine_each = injective
 
 -- and what has been read can be stored again
-pub storable : (b : List ℕ) → AreBytes b → scanned b ≡ Sound → Stored (state_in b)
+pub storable : (b : List ℕ) → AreBytes b → scanned b ≡ Ok tt → Stored (state_in b)
 storable = stored_again
 
 -- every place that 9 gives is below or at the input's length
-pub place_within : (b : List ℕ) (at : ℕ) → scanned b ≡ Broken at → at ≤ length b
+pub place_within : (b : List ℕ) (at : ℕ) → scanned b ≡ Err at → at ≤ length b
 place_within = within
 
 -- a proper prefix of an image is turned down at the field that is cut
-pub cut_field : (s : State) (k : ℕ) → Stored s → k < length (image_of s) → scanned (take k (image_of s)) ≡ Broken (start_of (fields_of (image_of s)) 0 k)
+pub cut_field : (s : State) (k : ℕ) → Stored s → k < length (image_of s) → scanned (take k (image_of s)) ≡ Err (start_of (fields_of (image_of s)) 0 k)
 cut_field = image_cut_off
 
 -- sound bytes and then any more: turned down at the first byte too many
-pub byte_too_many : (b : List ℕ) (x : ℕ) (more : List ℕ) → scanned b ≡ Sound → scanned (b ++ (x ∷ more)) ≡ Broken (length b)
+pub byte_too_many : (b : List ℕ) (x : ℕ) (more : List ℕ) → scanned b ≡ Ok tt → scanned (b ++ (x ∷ more)) ≡ Err (length b)
 byte_too_many = too_many

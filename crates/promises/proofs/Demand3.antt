@@ -8,15 +8,12 @@ use borrow.Author.Tests.{eq-eqb}
 use mathlib.Core.List.{List}
 use lib.Dec.{ltb, eqb}
 use lib.ListN.{length}
+use Rattle.std.specs.Prelude.{Some, None, Ok}
 use Rattle.laws.specs.Bits.{digit}
 use Rattle.machine.specs.Machine.{Machine}
 use Rattle.job_plans.specs.declared.Job.{Job}
-use Rattle.job_plans.specs.declared.Held.{Held}
-use Rattle.job_plans.specs.declared.Held.TheVariants.{Nothing, Holds}
-use Rattle.jobs.specs.declared.Started.TheVariants as started
 use Rattle.jobs.specs.Calls.{start_of}
-use Rattle.job_tally.specs.declared.Total.TheVariants as total
-use Rattle.job_plans.specs.Fields.{Kind, greatest, smallest, scaledAdd, product, unknown, kind_of}
+use Rattle.job_plans.specs.Fields.{Held, Kind, greatest, smallest, scaledAdd, product, unknown, kind_of}
 use Rattle.job_plans.specs.Places.{first, first_for, at_first}
 use Rattle.job_tally.specs.Totals.{sum_below, ones, zeros, value_of, values, greatest_of, smallest_of, pulses, total_check, total_of}
 use Rattle.jobs.specs.Runs.{State, steps}
@@ -53,13 +50,13 @@ at_first_lem o = go (kind_of o.kind) refl
 
 -- ---- jobs: for any machine m, whatever was held, and any job o whose start is accepted
 
-module _ (m : Machine) (h : Held) (o q : Job) (start : start_of m h o ≡ started.Holds q) where
+module _ (m : Machine) (h : Held) (o q : Job) (start : start_of m h o ≡ Ok q) where
   accepted : Accepted m o
   accepted = started_accepted m h o q start
 
   -- the start finds no job held, and what is held then is the job at its first place: `begun m o` stands
-  pub start_begins : (h ≡ Nothing) × (record { machine = m; held = Holds q } ≡ begun m o)
-  start_begins = let e = accepted_is m h o q start in (e.0, ap (λ (z : Job). record { machine = m; held = Holds z }) e.1)
+  pub start_begins : (h ≡ None) × (record { machine = m; held = Some q } ≡ begun m o)
+  start_begins = let e = accepted_is m h o q start in (e.0, ap (λ (z : Job). record { machine = m; held = Some z }) e.1)
 
   -- "A job step answers the command it gave, and the machine after it is that command's pulse" (`Gives`): step k gives the k-th of the job's
   -- commands in the table's order (`commands_of`), and they are as many as the stated pulses
@@ -70,14 +67,14 @@ module _ (m : Machine) (h : Held) (o q : Job) (start : start_of m h o ≡ starte
   as_many_commands = (course m o accepted).many
 
   -- over after exactly the stated number of pulses, and not before
-  pub over_at_last : (steps (pulses m (first o)) (begun m o)).held ≡ Nothing
+  pub over_at_last : (steps (pulses m (first o)) (begun m o)).held ≡ None
   over_at_last = (course m o accepted).over
 
-  pub not_over_before : (k : ℕ) → k < pulses m (first o) → (steps k (begun m o)).held ≡ Nothing → ⊥
+  pub not_over_before : (k : ℕ) → k < pulses m (first o) → (steps k (begun m o)).held ≡ None → ⊥
   not_over_before = not_over m o accepted
 
   -- further steps are refused and change nothing: an adding job is never added twice
-  pub never_twice : (k : ℕ) → steps (pulses m (first o) + k) (begun m o) ≡ record { machine = ended m o; held = Nothing }
+  pub never_twice : (k : ℕ) → steps (pulses m (first o) + k) (begun m o) ≡ record { machine = ended m o; held = None }
   never_twice = stays_over m o accepted
 
   -- greatest: X marks exactly the selected words with the greatest value (`Marks`), in 1+a pulses and one for each of its ones
@@ -136,14 +133,14 @@ module _ (m : Machine) (h : Held) (o q : Job) (start : start_of m h o ≡ starte
   some_pulse (suc k) e = omega arith
 
   -- `total`, asked before the first step, answers the number of pulses that are then taken
-  pub total_is_taken : total_of m (Holds (first o)) ≡ total.Pulses (pulses m (first o))
+  pub total_is_taken : total_of m (Some (first o)) ≡ Ok (pulses m (first o))
   unfolding total_of total_check steps
   total_is_taken = rw (given_passed (begun m o) (one_command_a_step 0 (some_pulse (pulses m (first o)) refl)), at_first_lem o)
 
 -- ---- never from how many words there are: one job on two machines of any sizes and widths gives the same commands, in the same number of pulses
 -- (`Alike`), if the selected words have the same extreme; and an adding job always
 
-module _ (m n : Machine) (g h : Held) (o p q : Job) (on_m : start_of m g o ≡ started.Holds p) (on_n : start_of n h o ≡ started.Holds q) where
+module _ (m n : Machine) (g h : Held) (o p q : Job) (on_m : start_of m g o ≡ Ok p) (on_n : start_of n h o ≡ Ok q) where
   left : Accepted m o
   left = started_accepted m g o p on_m
 
@@ -166,16 +163,16 @@ module _ (m n : Machine) (g h : Held) (o p q : Job) (on_m : start_of m g o ≡ s
 
 -- stop after any pulse, resume from the image stored then, and the end and the total are the same: stored after k pulses, with so many more to go,
 -- the job that is resumed gives exactly so many more, and the machine is then the one without a stop
-pub stop_after_any_pulse : (m : Machine) (h : Held) (o q : Job) → start_of m h o ≡ started.Holds q → Typed (record { machine = m; held = Holds o })
+pub stop_after_any_pulse : (m : Machine) (h : Held) (o q : Job) → start_of m h o ≡ Ok q → Typed (record { machine = m; held = Some o })
     → (k more : ℕ) → k + more ≡ pulses m (first o) → {output words responses image : List ℕ} {t : State}
     → Stores output (steps k (begun m o)) image → Resumes words responses image t
-    → ((j : ℕ) → j < more → (steps j t).held ≡ Nothing → ⊥) × (steps more t ≡ record { machine = ended m o; held = Nothing })
+    → ((j : ℕ) → j < more → (steps j t).held ≡ None → ⊥) × (steps more t ≡ record { machine = ended m o; held = None })
 stop_after_any_pulse m h o q start typed k more e stores resumes = one_stop m o (started_accepted m h o q start) typed k more e stores resumes
 
 -- any stops: `Worked (begun m o) k given s images` says that after the start the host has given steps, stored images and resumed from any of them,
 -- in any order and number, and that s stands now with k pulses behind it; `given` counts all steps that were really given
 
-module _ (m : Machine) (h : Held) (o q : Job) (start : start_of m h o ≡ started.Holds q) (typed : Typed (record { machine = m; held = Holds o }))
+module _ (m : Machine) (h : Held) (o q : Job) (start : start_of m h o ≡ Ok q) (typed : Typed (record { machine = m; held = Some o }))
     {k given : ℕ} {s : State} {images : List Kept} (worked : Worked (begun m o) k given s images) where
   taken : Accepted m o
   taken = started_accepted m h o q start
@@ -185,21 +182,21 @@ module _ (m : Machine) (h : Held) (o q : Job) (start : start_of m h o ≡ starte
   stops_change_nothing = as_without_stops m o taken typed worked
 
   -- the end is the one without stops, and so is the number of pulses behind it
-  pub same_end : s.held ≡ Nothing → (k ≡ pulses m (first o)) × (s.machine ≡ ended m o)
+  pub same_end : s.held ≡ None → (k ≡ pulses m (first o)) × (s.machine ≡ ended m o)
   same_end = over-stops.same_end m o taken typed worked
 
   -- all steps given are as many if each resume was from the image stored last, with no step after it (`NothingLost`), and never fewer
-  pub same_total : NothingLost worked → s.held ≡ Nothing → given ≡ pulses m (first o)
+  pub same_total : NothingLost worked → s.held ≡ None → given ≡ pulses m (first o)
   same_total = over-stops.same_total m o taken typed worked
 
-  pub never_fewer : s.held ≡ Nothing → pulses m (first o) ≤ given
+  pub never_fewer : s.held ≡ None → pulses m (first o) ≤ given
   never_fewer = no_fewer m o taken typed worked
 
   -- an adding job is never added twice
-  pub scaled_added_once : kind_of o.kind ≡ scaledAdd → s.held ≡ Nothing → Adds o (λ w. o.c * value_of o.a w) m s.machine
+  pub scaled_added_once : kind_of o.kind ≡ scaledAdd → s.held ≡ None → Adds o (λ w. o.c * value_of o.a w) m s.machine
   scaled_added_once e over = rw (same_end over).1 (scaled_added m h o q start e)
 
-  pub product_added_once : kind_of o.kind ≡ product → s.held ≡ Nothing → Adds o (λ w. value_of o.a w * value_of o.b w) m s.machine
+  pub product_added_once : kind_of o.kind ≡ product → s.held ≡ None → Adds o (λ w. value_of o.a w * value_of o.b w) m s.machine
   product_added_once e over = rw (same_end over).1 (product_added m h o q start e)
 
   -- and the job can always go on: before the end a step gives its command, what stands can be stored, each stored image can be resumed into any
@@ -214,5 +211,5 @@ module _ (m : Machine) (h : Held) (o q : Job) (start : start_of m h o ≡ starte
       → Resumes words responses i.image (steps i.pulses (begun m o))
   can_be_resumed = over-stops.can_be_resumed m o taken typed worked
 
-  pub rest_leads_there : steps (pulses m (first o) - k) s ≡ record { machine = ended m o; held = Nothing }
+  pub rest_leads_there : steps (pulses m (first o) - k) s ≡ record { machine = ended m o; held = None }
   rest_leads_there = rest_ends m o taken typed worked

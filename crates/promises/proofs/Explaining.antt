@@ -11,6 +11,7 @@ use contract.Lifetimes.{Lfts}
 use borrow.Fn.World.{ArgsD, ResD}
 use borrow.Fn.Kinds.{ended_of}
 use denote.Triple.Clauses.{AtExit}
+use Rattle.std.specs.Prelude.{Result, Ok, Err}
 use Rattle.laws.specs.Bits.{bit, pick, digit}
 use Rattle.laws.specs.Lists.{all}
 use Rattle.laws.proofs.Bits.{and_right}
@@ -19,17 +20,17 @@ use Rattle.machine.specs.declared.Lines.{Lines}
 use Rattle.machine.specs.declared.BitSlice.{BitSlice}
 use Rattle.machine.specs.declared.WordSlice.{WordSlice}
 use Rattle.machine.specs.declared.ResponseBit.{ResponseBit}
+use Rattle.machine.specs.declared.Refusal.{Refusal}
 use Rattle.machine.specs.declared.Refusal.TheVariants.{NoSuchWord}
 use Rattle.machine.specs.declared.Answer.{Answer}
-use Rattle.machine.specs.declared.Check.TheVariants.{Passed}
 use Rattle.machine.specs.Machine.{Machine, machine, response_bits, down_from, syllables, selected}
 use Rattle.machine.specs.Search.{satisfied, matches}
 use Rattle.machine.specs.Refusals.{bad_codes, pulse_check, after}
 use Rattle.machine.proofs.Machine.{all_down}
 use Rattle.machine.proofs.Refusals as checks
 use Rattle.machine.proofs.Refusals.{else_passed, not_refused, some_number}
-use Rattle.explainer.specs.declared.Explained.{Explained}
-use Rattle.explainer.specs.declared.Explained.TheVariants.{Matched, NotSelected, Against, EqualToTheBottom, Refused}
+use Rattle.explainer.specs.declared.Reason.{Reason}
+use Rattle.explainer.specs.declared.Reason.TheVariants.{Matched, NotSelected, Against, EqualToTheBottom}
 use Rattle.explainer.specs.Reasons.{searching, explain_check, reason_at, explained}
 use Rattle.explainer.specs.Truth.{Unselected, Topmost, SettledAgainst, NoDifference, is_matched, TrueOf}
 use Rattle.explainer.proofs.Settling.{reason_true}
@@ -53,12 +54,18 @@ use Rattle.wide.proofs.pulse.Reads as wide-pulse-reads
 abbrev pub picks : Machine → Panel → WordSlice → Bool
 picks m p k = matches m.width p (get_or m.words k.0 0) (get_or m.responses k.0 0)
 
--- what an answer says of word k is true
-abbrev pub TrueAt : Machine → Panel → WordSlice → Explained → Type 0
-TrueAt m p k = TrueOf m.width p (get_or m.words k.0 0) (get_or m.responses k.0 0)
+-- "matched" is said
+abbrev pub says_matched : Result Reason Refusal → Bool
+says_matched (Ok e) = is_matched e
+says_matched (Err why) = false
 
-module _ (m : Machine) (p : Panel) (k : WordSlice) (accepted : explain_check m p k ≡ Passed) where
-  as_search : pulse_check m p searching ≡ Passed
+-- what an answer says of word k is true, and it is no refusal
+abbrev pub TrueAt : Machine → Panel → WordSlice → Result Reason Refusal → Type 0
+TrueAt m p k (Ok e) = TrueOf m.width p (get_or m.words k.0 0) (get_or m.responses k.0 0) e
+TrueAt m p k (Err why) = ⊥
+
+module _ (m : Machine) (p : Panel) (k : WordSlice) (accepted : explain_check m p k ≡ Ok tt) where
+  as_search : pulse_check m p searching ≡ Ok tt
   unfolding explain_check
   as_search = (else_passed (pulse_check m p searching) _ accepted).0
 
@@ -66,7 +73,7 @@ module _ (m : Machine) (p : Panel) (k : WordSlice) (accepted : explain_check m p
   unfolding explain_check
   within = leb-false (length m.words) k.0 (not_refused NoSuchWord _ (else_passed (pulse_check m p searching) _ accepted).1)
 
-  true_there : TrueAt m p k (reason_at m p k)
+  true_there : TrueAt m p k (Ok (reason_at m p k))
   unfolding bad_codes
   true_there = reason_true m.width p _ _ (not-false _ (checks.clean m p searching as_search).codes)
 
@@ -86,25 +93,30 @@ unmatched n p w r t top = go (matches n p w r) refl
     go false h = refl
 
 -- an answer that is true says "matched" exactly if the word matches
-matched_if : (n : ℕ) (p : Panel) (w r : ℕ) (e : Explained) → TrueOf n p w r e → is_matched e ≡ matches n p w r
+matched_if : (n : ℕ) (p : Panel) (w r : ℕ) (e : Reason) → TrueOf n p w r e → is_matched e ≡ matches n p w r
 unfolding matches
 matched_if n p w r Matched h = sym h
 matched_if n p w r (NotSelected x) h = let u = h.unselected in rw u
 matched_if n p w r (Against t b) h = unmatched n p w r t.0 h.0
 matched_if n p w r (EqualToTheBottom t) h = unmatched n p w r t.0 h.0
-matched_if n p w r (Refused why) h = absurd h
+
+matched_at : (m : Machine) (p : Panel) (k : WordSlice) (r : Result Reason Refusal) → TrueAt m p k r → says_matched r ≡ picks m p k
+matched_at m p k (Ok e) h = matched_if m.width p _ _ e h
+matched_at m p k (Err why) h = absurd h
 
 -- an answer that is no refusal is one of the four
-abbrev pub OneOfFour : Explained → Type 0
+abbrev pub OneOfFour : Result Reason Refusal → Type 0
 OneOfFour r =
-    (r ≡ Matched) ⊎ (((x : ResponseBit) × (r ≡ NotSelected x)) ⊎ (((t : BitSlice) × (b : BitSlice) × (r ≡ Against t b)) ⊎ ((t : BitSlice) × (r ≡ EqualToTheBottom t))))
+    (r ≡ Ok Matched)
+    ⊎ (((x : ResponseBit) × (r ≡ Ok (NotSelected x)))
+    ⊎ (((t : BitSlice) × (b : BitSlice) × (r ≡ Ok (Against t b))) ⊎ ((t : BitSlice) × (r ≡ Ok (EqualToTheBottom t)))))
 
-no_refusal : (r : Explained) → (tells_explained r).0 ≡ 0 → OneOfFour r
-no_refusal Matched h = inl refl
-no_refusal (NotSelected x) h = inr (inl (x, refl))
-no_refusal (Against t b) h = inr (inr (inl (t, b, refl)))
-no_refusal (EqualToTheBottom t) h = inr (inr (inr (t, refl)))
-no_refusal (Refused why) h = absurd (some_number why h)
+no_refusal : (r : Result Reason Refusal) → (tells_explained r).0 ≡ 0 → OneOfFour r
+no_refusal (Ok Matched) h = inl refl
+no_refusal (Ok (NotSelected x)) h = inr (inl (x, refl))
+no_refusal (Ok (Against t b)) h = inr (inr (inl (t, b, refl)))
+no_refusal (Ok (EqualToTheBottom t)) h = inr (inr (inr (t, refl)))
+no_refusal (Err why) h = absurd (some_number why h)
 
 -- ---- of the call
 
@@ -129,31 +141,31 @@ module _ (κs : Lfts 2) (a : ArgsD explain.signature κs) (r : ResD explain.sign
       let c = (explain_meets κs a r s post).accepted h in
       rw c.1 (true_there m p k c.0)
 
-  matched_here : (tells_explained r).0 ≡ 0 → is_matched r ≡ picks m p k
-  matched_here h = matched_if m.width p _ _ r (answer_true h)
+  matched_here : (tells_explained r).0 ≡ 0 → says_matched r ≡ picks m p k
+  matched_here h = matched_at m p k r (answer_true h)
 
   -- ""matched" is said exactly when the search matches"
-  pub matched_exactly : (tells_explained r).0 ≡ 0 → is_matched r ≡ picks m p k
+  pub matched_exactly : (tells_explained r).0 ≡ 0 → says_matched r ≡ picks m p k
   matched_exactly h = matched_here h
 
   -- "not selected, with the lowest response bit that differs"
-  pub not_selected_true : (x : ResponseBit) → r ≡ NotSelected x → Unselected p (get_or m.responses k.0 0) x.0
+  pub not_selected_true : (x : ResponseBit) → r ≡ Ok (NotSelected x) → Unselected p (get_or m.responses k.0 0) x.0
   not_selected_true x e = rw e at (answer_true (rw e refl))
 
   -- "the topmost syllable not satisfied, with the bit where it was settled against"
-  pub against_true : (t b : BitSlice) → r ≡ Against t b
+  pub against_true : (t b : BitSlice) → r ≡ Ok (Against t b)
       → Topmost m.width p (get_or m.words k.0 0) (get_or m.responses k.0 0) t.0 × SettledAgainst p (get_or m.words k.0 0) t.0 b.0
   against_true t b e = rw e at (answer_true (rw e refl))
 
   -- "or "equal to the bottom" when larger or smaller found no difference"
-  pub equal_true : (t : BitSlice) → r ≡ EqualToTheBottom t
+  pub equal_true : (t : BitSlice) → r ≡ Ok (EqualToTheBottom t)
       → Topmost m.width p (get_or m.words k.0 0) (get_or m.responses k.0 0) t.0 × NoDifference p (get_or m.words k.0 0) (down_from p.sdr t.0)
   equal_true t e = rw e at (answer_true (rw e refl))
 
   -- and of any pulse on that machine, under that panel, that was accepted with search raised: at word k each target bit is then 1 exactly if "matched"
   -- was said
-  search_agrees : (tells_explained r).0 ≡ 0 → (m' : Machine) (p' : Panel) (l : Lines) (r' : Answer) (n : Machine) → Pulse m' p' l r' n → (tells_answer r').0 ≡ 0
-      → l.search ≡ true → m' ≡ m → p' ≡ p → (i : ℕ) → i < response_bits → bit p.target i ≡ 1 → bit (get_or n.responses k.0 0) i ≡ digit (is_matched r)
+  search_agrees : (tells_explained r).0 ≡ 0 → (m' : Machine) (p' : Panel) (l : Lines) (r' : Result Answer Refusal) (n : Machine) → Pulse m' p' l r' n → (tells_answer r').0 ≡ 0
+      → l.search ≡ true → m' ≡ m → p' ≡ p → (i : ℕ) → i < response_bits → bit p.target i ≡ 1 → bit (get_or n.responses k.0 0) i ≡ digit (says_matched r)
   search_agrees h m' p' l r' n met h' raised e f i g t =
       let passed = ap₂ (λ (m : Machine) (p : Panel). pulse_check m p l) (sym e) (sym f) ∙ (met.0.accepted h').0 in
       ap (λ (q : Machine). bit (get_or q.responses k.0 0) i) (met.1.leaves ∙ ap₂ (λ (m : Machine) (p : Panel). after m p l) e f)
@@ -165,7 +177,7 @@ module _ (κs : Lfts 2) (a : ArgsD explain.signature κs) (r : ResD explain.sign
       → (κs' : Lfts 2) (a' : ArgsD wide-pulse.signature κs') (r' : ResD wide-pulse.signature κs') (s' : AtExit (ended_of 2 wide-pulse-kinds.ps wide-pulse-kinds.r) κs')
       → wide-pulse-reads.Post κs' a' r' s' → (tells_answer r').0 ≡ 0 → a'.1.1.1.1.0.search ≡ true
       → machine a'.1.1.0 a'.0.now a'.1.0.now ≡ m → a'.1.1.1.0 ≡ p
-      → (i : ℕ) → i < response_bits → bit p.target i ≡ 1 → bit (get_or s'.1.0.now k.0 0) i ≡ digit (is_matched r)
+      → (i : ℕ) → i < response_bits → bit p.target i ≡ 1 → bit (get_or s'.1.0.now k.0 0) i ≡ digit (says_matched r)
   wide_search_agrees h κs' a' r' s' post' =
       search_agrees h (machine a'.1.1.0 a'.0.now a'.1.0.now) a'.1.1.1.0 a'.1.1.1.1.0 r' (machine a'.1.1.0 s'.0.now s'.1.0.now)
       (wide_pulse_meets κs' a' r' s' post')
@@ -174,7 +186,7 @@ module _ (κs : Lfts 2) (a : ArgsD explain.signature κs) (r : ResD explain.sign
       → (κs' : Lfts 2) (a' : ArgsD plain-pulse.signature κs') (r' : ResD plain-pulse.signature κs') (s' : AtExit (ended_of 2 plain-pulse-kinds.ps plain-pulse-kinds.r) κs')
       → plain-pulse-reads.Post κs' a' r' s' → (tells_answer r').0 ≡ 0 → a'.1.1.1.1.0.search ≡ true
       → machine a'.1.1.0 a'.0.now a'.1.0.now ≡ m → a'.1.1.1.0 ≡ p
-      → (i : ℕ) → i < response_bits → bit p.target i ≡ 1 → bit (get_or s'.1.0.now k.0 0) i ≡ digit (is_matched r)
+      → (i : ℕ) → i < response_bits → bit p.target i ≡ 1 → bit (get_or s'.1.0.now k.0 0) i ≡ digit (says_matched r)
   plain_search_agrees h κs' a' r' s' post' =
       search_agrees h (machine a'.1.1.0 a'.0.now a'.1.0.now) a'.1.1.1.0 a'.1.1.1.1.0 r' (machine a'.1.1.0 s'.0.now s'.1.0.now)
       (plain_pulse_meets κs' a' r' s' post')

@@ -5,10 +5,12 @@ use mathlib.Core.Path.{◌≡◌, refl}
 use mathlib.Core.List.{List, [], ◌∷◌, map}
 use mathlib.Core.Bool.{Bool, true, false}
 use lib.ListN.{length}
+use Rattle.std.specs.Prelude.{Some, None, Result, Ok, Err}
 use Rattle.laws.specs.Bits.{bit, number, every, under}
 use Rattle.laws.specs.Lists.{all, zip, count}
 use Rattle.machine.specs.declared.Panel.{Panel}
 use Rattle.machine.specs.declared.Lines.{Lines}
+use Rattle.machine.specs.declared.Refusal.{Refusal}
 use Rattle.machine.specs.Panel.{panel_of}
 use Rattle.machine.specs.Machine.{Machine, response_bits, bottom, tops, selected}
 use Rattle.machine.specs.Search.{one_code, one_setting, compared_only, satisfied, matches, marked}
@@ -17,11 +19,7 @@ use Rattle.machine.specs.Resolution.{lowest}
 use Rattle.machine.specs.Refusals.{bad_size, bad_width, bad_panel, bad_codes, bad_lines, bad_address, machine_check, pulse_check, answer_of, after, Told, told}
 use Rattle.job_plans.specs.declared.Span.{Span}
 use Rattle.job_plans.specs.declared.Job.{Job}
-use Rattle.job_plans.specs.declared.Held.{Held}
-use Rattle.job_plans.specs.declared.Held.TheVariants.{Nothing, Holds}
-use Rattle.jobs.specs.declared.Started.{Started}
-use Rattle.jobs.specs.declared.Started.TheVariants as started
-use Rattle.job_plans.specs.Fields.{extreme_check, scaled_add_check, product_check, used_check, unused_zero}
+use Rattle.job_plans.specs.Fields.{Held, kind_of, extreme_check, scaled_add_check, product_check, used_check, unused_zero}
 use Rattle.job_plans.specs.Places.{in_table, held_check, first, next}
 use Rattle.job_plans.specs.Commands.{command}
 use Rattle.jobs.specs.Calls.{start_check, start_of, step_check, step_of, after_step}
@@ -45,9 +43,9 @@ pub record Row : Type 0 where
 abbrev counted : ℕ → Told
 counted c = record { refusal = 0; also = 0; count = c; read = 0 }
 
-abbrev held_by : Started → Held
-held_by (started.Holds o) = Holds o
-held_by (started.Refused r) = Nothing
+abbrev held_by : Result Job Refusal → Held
+held_by (Ok o) = Some o
+held_by (Err r) = None
 
 abbrev one_pulse : Machine → Panel → Lines → Shown
 one_pulse m p l =
@@ -122,7 +120,7 @@ but_y r = number response_bits (under 0b10 (λ i. 0) (bit r))
 -- what stands once the job is over: more steps than any of these takes are allowed for
 abbrev ended : Machine → Job → Shown
 ended m o =
-    let s : State = record { machine = m; held = held_by (start_of m Nothing o) } in
+    let s : State = record { machine = m; held = held_by (start_of m None o) } in
     let k : ℕ = steps_taken 20 s in
     record { pulses = k; told = counted 0; words = (steps k s).machine.words; responses = map but_y (steps k s).machine.responses }
 
@@ -159,7 +157,7 @@ table =
 -- ---- the statement: what the definitions give is what document 01 states, in every row
 
 pub figures : map (λ (r : Row). r.given) table ≡ map (λ (r : Row). r.stated) table
-unfolding number every all zip count bottom tops selected one_code one_setting compared_only satisfied matches marked written sums added word_after flipped response_after counts count_of read_of pulsed lowest bad_size bad_width bad_panel bad_codes bad_lines bad_address machine_check pulse_check answer_of after extreme_check scaled_add_check product_check used_check unused_zero in_table held_check first next command start_check start_of step_check step_of after_step stepped steps steps_taken
+unfolding number every all zip count bottom tops selected one_code one_setting compared_only satisfied matches marked written sums added word_after flipped response_after counts count_of read_of pulsed lowest bad_size bad_width bad_panel bad_codes bad_lines bad_address machine_check pulse_check answer_of after kind_of extreme_check scaled_add_check product_check used_check unused_zero in_table held_check first next command start_check start_of step_check step_of after_step stepped steps steps_taken
 figures = refl
 
 -- ---- document 02, request c: "at least 90 days" on words 89, 90 and 91 of 8 bits, one syllable, responses 0, target 1

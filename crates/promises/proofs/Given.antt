@@ -6,36 +6,29 @@ use mathlib.Core.Bool.{Bool, true, false, not, ◌||◌}
 use lib.Dec.{ltb, leb, eqb}
 use mathlib.Core.List.{List, [], ◌∷◌}
 use lib.ListN.{length}
+use Rattle.std.specs.Prelude.{Option, Some, None, Ok, Err}
 use Rattle.machine.specs.declared.Panel.{Panel}
 use Rattle.machine.specs.declared.Lines.{Lines}
 use Rattle.machine.specs.declared.WordSlice.{WordSlice}
 use Rattle.machine.specs.declared.ResponseBit.{ResponseBit}
-use Rattle.machine.specs.declared.Found.{Found}
-use Rattle.machine.specs.declared.Found.TheVariants.{At, Nothing}
 use Rattle.machine.specs.declared.Syllable.{Syllable}
 use Rattle.machine.specs.declared.Syllable.TheVariants.{A, B, P}
 use Rattle.machine.specs.declared.Refusal.{Refusal}
 use Rattle.machine.specs.declared.Refusal.TheVariants.{Size, Width, PanelTooWide, TwoCodes, WrongLines, NoSuchWord, EmptySyllable, BeyondWord, Overlap, NoSuchBit, BitsClash, WrongJob, NoRoom, NotShown}
-use Rattle.machine.specs.declared.Check.{Check}
-use Rattle.machine.specs.declared.Check.TheVariants.{Passed, Refused}
 use Rattle.machine.specs.Machine.{Machine, response_bits}
 use Rattle.machine.specs.Resolution.{lowest}
-use Rattle.machine.specs.Refusals.{bad_size, bad_width, too_wide, bad_panel, bad_codes, bad_lines, bad_address, in_care, bit_check, apart_check, care_check, ◌else◌, refuse, refuse_word, machine_check, command_check, pulse_check, tells}
+use Rattle.machine.specs.Refusals.{Check, bad_size, bad_width, too_wide, bad_panel, bad_codes, bad_lines, bad_address, in_care, bit_check, apart_check, care_check, ◌else◌, refuse, refuse_word, machine_check, command_check, pulse_check, tells}
 use Rattle.machine.proofs.Refusals.{else_assoc}
 use Rattle.explainer.specs.Reasons.{searching, explain_check}
 use Rattle.job_plans.specs.declared.Span.{Span}
 use Rattle.job_plans.specs.declared.Job.{Job}
-use Rattle.job_plans.specs.declared.Held.{Held}
-use Rattle.job_plans.specs.declared.Held.TheVariants as held
-use Rattle.job_plans.specs.Fields.{Kind, greatest, smallest, scaledAdd, product, unknown, kind_of, empty_check, beyond_check, overlaps, overlap_check, extreme_check, scaled_add_check, product_check, used_check_for, used_check, unused_zero, unused_check}
+use Rattle.job_plans.specs.Fields.{Held, Kind, greatest, smallest, scaledAdd, product, unknown, kind_of, empty_check, beyond_check, overlaps, overlap_check, extreme_check, scaled_add_check, product_check, used_check_for, used_check, unused_zero, unused_check}
 use Rattle.job_plans.specs.Places.{in_table, place_check, held_check, step_held_check}
 use Rattle.jobs.specs.Calls.{is_held, free_check, start_check, step_check}
 use Rattle.job_tally.specs.Totals.{is_first, first_check, total_check}
 use Rattle.jobs.specs.Runs.{State}
-use Rattle.image_layout.specs.declared.Scanned.{Scanned}
-use Rattle.image_layout.specs.declared.Scanned.TheVariants.{Sound, Broken}
 use Rattle.image_layout.specs.Format.{image_of, held_jobs}
-use Rattle.image_layout.specs.Reading.{words_in, scanned}
+use Rattle.image_layout.specs.Reading.{Scanned, words_in, scanned}
 use Rattle.image.specs.Calls.{jobs_check, write_check, refuse_bytes, read_check}
 use Rattle.rounds.specs.Round.{other_than, shown, show_check, pair_check, answer_check, round_check}
 use Rattle.promises.proofs.Demand1.{Entry, entry, first, stray, machine_table, pulse_table, explain_table, empty, beyond, shared, above_last, alike, among_care, wrong_job, pair_table, used_table, held_table, step_table, jobs_table, show_table, round_table, answer_table, start_table, steps_table, total_table, write_table, malformed, read_table, given}
@@ -46,13 +39,13 @@ use Rattle.promises.proofs.Demand1.{Entry, entry, first, stray, machine_table, p
 record Tabled (c : Check) (table : List Entry → List Entry) : Type 0 where
   pub before : (d : Check) (es : List Entry) → given d ≡ first es → given (c else d) ≡ first (table es)
 
-machine_first : (b₁ b₂ : Bool) (f : Found) (c : Check) (es : List Entry) → given c ≡ first es
+machine_first : (b₁ b₂ : Bool) (f : Option WordSlice) (c : Check) (es : List Entry) → given c ≡ first es
     → given ((refuse Size b₁ else refuse Width b₂ else refuse_word f) else c) ≡ first (entry 1 b₁ ∷ entry 2 b₂ ∷ stray f ∷ es)
 unfolding first
 machine_first true b₂ f c es h = refl
 machine_first false true f c es h = refl
-machine_first false false (At k) c es h = refl
-machine_first false false Nothing c es h = h
+machine_first false false (Some k) c es h = refl
+machine_first false false None c es h = h
 
 -- 1 to 3
 of_machine : (m : Machine) → Tabled (machine_check m) (machine_table m)
@@ -77,11 +70,11 @@ infixr 20 ◌then◌
 -- with nothing after it
 whole : {c : Check} {t : List Entry → List Entry} → Tabled c t → given c ≡ first (t [])
 unfolding first
-whole {c} f = sym (passed_else c) ∙ f.before Passed [] refl
+whole {c} f = sym (passed_else c) ∙ f.before (Ok tt) [] refl
   where
-    passed_else : (c : Check) → given (c else Passed) ≡ given c
-    passed_else Passed = refl
-    passed_else (Refused r) = refl
+    passed_else : (c : Check) → given (c else Ok tt) ≡ given c
+    passed_else (Ok tt) = refl
+    passed_else (Err r) = refl
 
 four : (n : ℕ) (p : Panel) → Tabled (refuse PanelTooWide (bad_panel n p)) (λ es. entry 4 (bad_panel n p) ∷ es)
 four n p = leaf PanelTooWide (bad_panel n p)
@@ -171,8 +164,8 @@ unfolding held_check
 of_held n o = of_used n o then unused_leaf o then place_leaf o
 
 of_step : (n : ℕ) (h : Held) → Tabled (step_held_check n h) (step_table n h)
-of_step n held.Nothing = leaf WrongJob true
-of_step n (held.Holds o) = of_held n o
+of_step n None = leaf WrongJob true
+of_step n (Some o) = of_held n o
 
 of_jobs : (n : ℕ) (os : List Job) → Tabled (jobs_check n os) (jobs_table n os)
 of_jobs n [] = record { before = λ d es h. h }
@@ -230,9 +223,9 @@ write_given s room =
 
 nine_ten : (c : Scanned) (b : Bool) → given (refuse_bytes c else refuse NoRoom b) ≡ first (malformed c ∷ entry 10 b ∷ [])
 unfolding first
-nine_ten Sound true = refl
-nine_ten Sound false = refl
-nine_ten (Broken at) b = refl
+nine_ten (Ok tt) true = refl
+nine_ten (Ok tt) false = refl
+nine_ten (Err at) b = refl
 
 pub read_given : (bs : List ℕ) (words responses : ℕ) → given (read_check bs words responses) ≡ first (read_table bs words responses)
 unfolding read_check

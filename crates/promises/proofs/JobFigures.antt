@@ -3,8 +3,7 @@
 use Prim.Native.Nat.{ℕ}
 use mathlib.Core.Path.{◌≡◌, refl}
 use mathlib.Core.List.{List, [], ◌∷◌, map}
-use lib.ListN.{length}
-use Rattle.laws.specs.Bits.{bit}
+use Rattle.std.specs.Prelude.{Some, None}
 use Rattle.machine.specs.declared.ResponseBit.{ResponseBit}
 use Rattle.machine.specs.Machine.{Machine}
 use Rattle.machine.specs.Resolution.{lowest}
@@ -13,9 +12,7 @@ use Rattle.rounds.specs.Round.{shown, show_check, pair_check, answer_check, roun
 use Rattle.rounds.specs.Round as rounds
 use Rattle.job_plans.specs.declared.Span.{Span}
 use Rattle.job_plans.specs.declared.Job.{Job}
-use Rattle.job_plans.specs.declared.Held.{Held}
-use Rattle.job_plans.specs.declared.Held.TheVariants.{Nothing, Holds}
-use Rattle.job_plans.specs.Fields.{job, extreme_check, scaled_add_check, product_check, used_check, unused_zero}
+use Rattle.job_plans.specs.Fields.{Held, job, kind_of, extreme_check, scaled_add_check, product_check, used_check, unused_zero}
 use Rattle.job_plans.specs.Places.{in_table, held_check, first}
 use Rattle.jobs.specs.Calls.{start_check, start_of, step_check, step_of}
 use Rattle.job_tally.specs.Totals.{pulses, total_check, total_of}
@@ -47,7 +44,7 @@ offer kind care x y a b p = job kind 0 care (bit_no x) (bit_no y) a b p 0 0 0 0
 
 -- a greatest, held at its first place
 abbrev other : Held
-other = Holds (job 1 0 0 (bit_no 0) (bit_no 1) (at 0 4) none none 0 3 0 0)
+other = Some (job 1 0 0 (bit_no 0) (bit_no 1) (at 0 4) none none 0 3 0 0)
 
 abbrev starts : Held → Job → ℕ × ℕ → Case
 starts h o stated = record { given = tells_started (start_of board h o); stated = stated }
@@ -55,61 +52,61 @@ starts h o stated = record { given = tells_started (start_of board h o); stated 
 -- a start, where one thing is wrong with the job offered, for every kind; and where nothing that the kind uses is wrong
 abbrev pub alone : List Case
 alone =
-    starts Nothing (offer 1 0 0 1 none none none) (20, 1)
-    ∷ starts Nothing (offer 1 0 0 1 (at 5 4) none none) (21, 1)
-    ∷ starts Nothing (offer 1 0 8 1 (at 0 4) none none) (23, 0)
-    ∷ starts Nothing (offer 1 0 0 8 (at 0 4) none none) (23, 0)
-    ∷ starts Nothing (offer 1 0 1 1 (at 0 4) none none) (24, 0)
-    ∷ starts Nothing (offer 1 1 0 1 (at 0 4) none none) (24, 0)
-    ∷ starts Nothing (offer 1 2 0 1 (at 0 4) none none) (24, 0)
-    ∷ starts Nothing (offer 2 0 0 1 none none none) (20, 1)
-    ∷ starts Nothing (offer 2 0 0 1 (at 5 4) none none) (21, 1)
-    ∷ starts Nothing (offer 2 0 8 1 (at 0 4) none none) (23, 0)
-    ∷ starts Nothing (offer 2 0 0 8 (at 0 4) none none) (23, 0)
-    ∷ starts Nothing (offer 2 0 1 1 (at 0 4) none none) (24, 0)
-    ∷ starts Nothing (offer 2 1 0 1 (at 0 4) none none) (24, 0)
-    ∷ starts Nothing (offer 2 2 0 1 (at 0 4) none none) (24, 0)
-    ∷ starts Nothing (offer 3 0 0 1 none none (at 4 4)) (20, 1)
-    ∷ starts Nothing (offer 3 0 0 1 (at 0 4) none (at 4 0)) (20, 3)
-    ∷ starts Nothing (offer 3 0 0 1 (at 8 1) none (at 0 4)) (21, 1)
-    ∷ starts Nothing (offer 3 0 0 1 (at 0 4) none (at 5 4)) (21, 3)
-    ∷ starts Nothing (offer 3 0 0 1 (at 0 4) none (at 3 4)) (22, 1)
-    ∷ starts Nothing (offer 3 0 0 8 (at 0 4) none (at 4 4)) (23, 0)
-    ∷ starts Nothing (offer 3 2 0 1 (at 0 4) none (at 4 4)) (24, 0)
-    ∷ starts Nothing (offer 4 0 0 1 none (at 2 2) (at 4 4)) (20, 1)
-    ∷ starts Nothing (offer 4 0 0 1 (at 0 2) (at 2 0) (at 4 4)) (20, 2)
-    ∷ starts Nothing (offer 4 0 0 1 (at 0 2) (at 2 2) (at 4 0)) (20, 3)
-    ∷ starts Nothing (offer 4 0 0 1 (at 7 2) (at 2 2) (at 4 3)) (21, 1)
-    ∷ starts Nothing (offer 4 0 0 1 (at 0 2) (at 7 2) (at 4 3)) (21, 2)
-    ∷ starts Nothing (offer 4 0 0 1 (at 0 2) (at 2 2) (at 5 4)) (21, 3)
-    ∷ starts Nothing (offer 4 0 0 1 (at 0 2) (at 2 2) (at 1 1)) (22, 1)
-    ∷ starts Nothing (offer 4 0 0 1 (at 0 2) (at 2 2) (at 3 4)) (22, 2)
-    ∷ starts Nothing (offer 4 0 0 255 (at 0 2) (at 2 2) (at 4 4)) (23, 0)
-    ∷ starts Nothing (offer 4 2 0 1 (at 0 2) (at 2 2) (at 4 4)) (24, 0)
-    ∷ starts Nothing (offer 0 0 0 1 (at 0 4) none none) (25, 0)
-    ∷ starts Nothing (offer 5 0 0 1 (at 0 4) none none) (25, 0)
+    starts None (offer 1 0 0 1 none none none) (20, 1)
+    ∷ starts None (offer 1 0 0 1 (at 5 4) none none) (21, 1)
+    ∷ starts None (offer 1 0 8 1 (at 0 4) none none) (23, 0)
+    ∷ starts None (offer 1 0 0 8 (at 0 4) none none) (23, 0)
+    ∷ starts None (offer 1 0 1 1 (at 0 4) none none) (24, 0)
+    ∷ starts None (offer 1 1 0 1 (at 0 4) none none) (24, 0)
+    ∷ starts None (offer 1 2 0 1 (at 0 4) none none) (24, 0)
+    ∷ starts None (offer 2 0 0 1 none none none) (20, 1)
+    ∷ starts None (offer 2 0 0 1 (at 5 4) none none) (21, 1)
+    ∷ starts None (offer 2 0 8 1 (at 0 4) none none) (23, 0)
+    ∷ starts None (offer 2 0 0 8 (at 0 4) none none) (23, 0)
+    ∷ starts None (offer 2 0 1 1 (at 0 4) none none) (24, 0)
+    ∷ starts None (offer 2 1 0 1 (at 0 4) none none) (24, 0)
+    ∷ starts None (offer 2 2 0 1 (at 0 4) none none) (24, 0)
+    ∷ starts None (offer 3 0 0 1 none none (at 4 4)) (20, 1)
+    ∷ starts None (offer 3 0 0 1 (at 0 4) none (at 4 0)) (20, 3)
+    ∷ starts None (offer 3 0 0 1 (at 8 1) none (at 0 4)) (21, 1)
+    ∷ starts None (offer 3 0 0 1 (at 0 4) none (at 5 4)) (21, 3)
+    ∷ starts None (offer 3 0 0 1 (at 0 4) none (at 3 4)) (22, 1)
+    ∷ starts None (offer 3 0 0 8 (at 0 4) none (at 4 4)) (23, 0)
+    ∷ starts None (offer 3 2 0 1 (at 0 4) none (at 4 4)) (24, 0)
+    ∷ starts None (offer 4 0 0 1 none (at 2 2) (at 4 4)) (20, 1)
+    ∷ starts None (offer 4 0 0 1 (at 0 2) (at 2 0) (at 4 4)) (20, 2)
+    ∷ starts None (offer 4 0 0 1 (at 0 2) (at 2 2) (at 4 0)) (20, 3)
+    ∷ starts None (offer 4 0 0 1 (at 7 2) (at 2 2) (at 4 3)) (21, 1)
+    ∷ starts None (offer 4 0 0 1 (at 0 2) (at 7 2) (at 4 3)) (21, 2)
+    ∷ starts None (offer 4 0 0 1 (at 0 2) (at 2 2) (at 5 4)) (21, 3)
+    ∷ starts None (offer 4 0 0 1 (at 0 2) (at 2 2) (at 1 1)) (22, 1)
+    ∷ starts None (offer 4 0 0 1 (at 0 2) (at 2 2) (at 3 4)) (22, 2)
+    ∷ starts None (offer 4 0 0 255 (at 0 2) (at 2 2) (at 4 4)) (23, 0)
+    ∷ starts None (offer 4 2 0 1 (at 0 2) (at 2 2) (at 4 4)) (24, 0)
+    ∷ starts None (offer 0 0 0 1 (at 0 4) none none) (25, 0)
+    ∷ starts None (offer 5 0 0 1 (at 0 4) none none) (25, 0)
     ∷ starts other (offer 1 0 0 1 (at 0 4) none none) (25, 0)
-    ∷ starts Nothing (offer 3 1 0 1 (at 0 4) (at 7 9) (at 4 4)) (0, 0)
-    ∷ starts Nothing (offer 1 0 0 7 (at 0 8) none (at 0 8)) (0, 0)
-    ∷ starts Nothing (offer 4 0 9 1 (at 0 2) (at 0 2) (at 2 6)) (0, 0)
+    ∷ starts None (offer 3 1 0 1 (at 0 4) (at 7 9) (at 4 4)) (0, 0)
+    ∷ starts None (offer 1 0 0 7 (at 0 8) none (at 0 8)) (0, 0)
+    ∷ starts None (offer 4 0 9 1 (at 0 2) (at 0 2) (at 2 6)) (0, 0)
     ∷ []
 
 -- a start with several things wrong: the lowest number, and of one number A before B before P; 25 for the job that is held comes last; an unknown
 -- kind gets only 25
 abbrev pub together : List Case
 together =
-    starts Nothing (offer 4 0 0 1 none (at 2 0) (at 4 0)) (20, 1)
-    ∷ starts Nothing (offer 4 0 0 1 (at 0 2) (at 2 0) (at 4 0)) (20, 2)
-    ∷ starts Nothing (offer 4 0 0 1 (at 7 2) (at 2 2) (at 4 0)) (20, 3)
-    ∷ starts Nothing (offer 3 0 0 1 (at 6 4) none none) (20, 3)
-    ∷ starts Nothing (offer 4 0 0 1 (at 7 2) (at 7 2) (at 7 2)) (21, 1)
-    ∷ starts Nothing (offer 4 0 0 1 (at 0 2) (at 7 2) (at 7 2)) (21, 2)
-    ∷ starts Nothing (offer 4 0 0 1 (at 0 2) (at 2 2) (at 3 6)) (21, 3)
-    ∷ starts Nothing (offer 4 0 0 1 (at 0 2) (at 2 2) (at 0 8)) (22, 1)
-    ∷ starts Nothing (offer 3 2 0 8 (at 0 4) none (at 0 4)) (22, 1)
-    ∷ starts Nothing (offer 4 2 0 1 (at 0 2) (at 2 2) (at 3 4)) (22, 2)
-    ∷ starts Nothing (offer 1 0 8 8 (at 0 4) none none) (23, 0)
-    ∷ starts Nothing (offer 1 1 0 8 (at 0 4) none none) (23, 0)
+    starts None (offer 4 0 0 1 none (at 2 0) (at 4 0)) (20, 1)
+    ∷ starts None (offer 4 0 0 1 (at 0 2) (at 2 0) (at 4 0)) (20, 2)
+    ∷ starts None (offer 4 0 0 1 (at 7 2) (at 2 2) (at 4 0)) (20, 3)
+    ∷ starts None (offer 3 0 0 1 (at 6 4) none none) (20, 3)
+    ∷ starts None (offer 4 0 0 1 (at 7 2) (at 7 2) (at 7 2)) (21, 1)
+    ∷ starts None (offer 4 0 0 1 (at 0 2) (at 7 2) (at 7 2)) (21, 2)
+    ∷ starts None (offer 4 0 0 1 (at 0 2) (at 2 2) (at 3 6)) (21, 3)
+    ∷ starts None (offer 4 0 0 1 (at 0 2) (at 2 2) (at 0 8)) (22, 1)
+    ∷ starts None (offer 3 2 0 8 (at 0 4) none (at 0 4)) (22, 1)
+    ∷ starts None (offer 4 2 0 1 (at 0 2) (at 2 2) (at 3 4)) (22, 2)
+    ∷ starts None (offer 1 0 8 8 (at 0 4) none none) (23, 0)
+    ∷ starts None (offer 1 1 0 8 (at 0 4) none none) (23, 0)
     ∷ starts other (offer 1 3 0 0 none none none) (20, 1)
     ∷ starts other (offer 4 0 0 1 (at 0 2) (at 2 2) (at 5 4)) (21, 3)
     ∷ starts other (offer 4 0 0 1 (at 0 2) (at 2 2) (at 2 2)) (22, 2)
@@ -131,15 +128,15 @@ stores h room stated = record { given = tells_wrote (write_of (record { machine 
 
 -- kind, care, Y, A, B and P, phase, i, j and c; key and X 0
 abbrev holding : ℕ → ℕ → ℕ → Span → Span → Span → ℕ → ℕ → ℕ → ℕ → Held
-holding kind care y a b p phase i j c = Holds (job kind 0 care (bit_no 0) (bit_no y) a b p phase i j c)
+holding kind care y a b p phase i j c = Some (job kind 0 care (bit_no 0) (bit_no y) a b p phase i j c)
 
 -- 20 to 24 come before what is judged only after the start; what is held comes before the room
 abbrev pub held : List Case
 held =
-    gives Nothing (25, 0)
-    ∷ takes Nothing (25, 0)
-    ∷ stores Nothing 44 (0, 0)
-    ∷ stores Nothing 43 (10, 0)
+    gives None (25, 0)
+    ∷ takes None (25, 0)
+    ∷ stores None 44 (0, 0)
+    ∷ stores None 43 (10, 0)
     ∷ gives (holding 1 0 1 (at 0 4) none none 3 0 0 0) (25, 0)
     ∷ gives (holding 2 0 1 (at 0 4) none none 0 2 0 0) (25, 0)
     ∷ gives (holding 3 0 1 (at 0 4) none (at 4 4) 0 0 0 0) (25, 0)
@@ -194,5 +191,5 @@ stated_all = map (λ (r : Case). r.stated)
 
 pub figures_of_d : (shown_all alone ≡ stated_all alone) × (shown_all together ≡ stated_all together)
     × (shown_all held ≡ stated_all held) × (shown_all round ≡ stated_all round)
-unfolding bad_size bad_width lowest machine_check extreme_check scaled_add_check product_check used_check unused_zero in_table held_check first start_check start_of step_check step_of total_check total_of pulses bytes items image_of write_check write_of shown show_check pair_check answer_check round_check show_of reply_of
+unfolding bad_size bad_width lowest machine_check kind_of extreme_check scaled_add_check product_check used_check unused_zero in_table held_check first start_check start_of step_check step_of total_check total_of pulses bytes items image_of write_check write_of shown show_check pair_check answer_check round_check show_of reply_of
 figures_of_d = (refl, refl, refl, refl)

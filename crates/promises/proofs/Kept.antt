@@ -14,17 +14,17 @@ use contract.Lifetimes.{Lfts}
 use borrow.Fn.World.{ArgsD, ResD}
 use borrow.Fn.Kinds.{ended_of}
 use denote.Triple.Clauses.{AtExit}
+use Rattle.std.specs.Prelude.{Some, Result, Ok, Err}
 use Rattle.laws.specs.Bits.{pick}
-use Rattle.machine.specs.declared.Check.{Check}
-use Rattle.machine.specs.declared.Check.TheVariants.{Passed, Refused}
 use Rattle.machine.specs.declared.Lines.{Lines}
 use Rattle.machine.specs.declared.Panel.{Panel}
+use Rattle.machine.specs.declared.Refusal.{Refusal}
 use Rattle.machine.specs.declared.Refusal.TheVariants.{NoRoom}
 use Rattle.machine.specs.declared.ResponseBit.{ResponseBit}
 use Rattle.machine.specs.declared.WordSlice.{WordSlice}
 use Rattle.machine.specs.Machine.{Machine, machine}
 use Rattle.machine.specs.Pulse.{pulsed}
-use Rattle.machine.specs.Refusals.{pulse_check, answer_by, change_by, after}
+use Rattle.machine.specs.Refusals.{Check, pulse_check, answer_by, change_by, after}
 use Rattle.machine.proofs.Refusals as checks
 use Rattle.machine.proofs.Refusals.{else_passed, not_refused, or_right}
 use Rattle.rounds.specs.declared.Verdict.{Verdict}
@@ -32,25 +32,21 @@ use Rattle.rounds.specs.declared.Verdict.TheVariants.{Done, Faulty}
 use Rattle.rounds.specs.Round.{has, put, answered, round_check, answer_check, answered_at, after_answer}
 use Rattle.rounds.proofs.Marks.{put_lt}
 use Rattle.handout.specs.Whole.{each, worked, verdict_of, after_ended, after_round}
-use Rattle.job_plans.specs.declared.Held.{Held}
-use Rattle.job_plans.specs.declared.Held.TheVariants.{Holds}
 use Rattle.job_plans.specs.declared.Job.{Job}
+use Rattle.job_plans.specs.Fields.{Held}
 use Rattle.job_plans.specs.Places.{first}
-use Rattle.jobs.specs.declared.Started.TheVariants as started
 use Rattle.jobs.specs.Calls.{start_check, start_of}
 use Rattle.jobs.specs.Runs.{State, state, held_after}
-use Rattle.image_layout.specs.declared.Scanned.{Scanned}
-use Rattle.image_layout.specs.declared.Scanned.TheVariants.{Sound, Broken}
 use Rattle.image_layout.specs.Format.{AreBytes, AreResponses, JobFits}
-use Rattle.image_layout.specs.Reading.{words_in, scanned, state_in}
+use Rattle.image_layout.specs.Reading.{Scanned, words_in, scanned, state_in}
 use Rattle.image_layout.specs.Sizes.{word_size, response_size, items_at, words_at}
 use Rattle.image_layout.proofs.Reading.{length_numbers}
-use Rattle.image.specs.declared.Read.TheVariants as read_answer
-use Rattle.image.specs.Calls.{refuse_bytes, read_check, read_of, responses_read, Stored}
+use Rattle.image.specs.declared.Loaded.{Loaded}
+use Rattle.image.specs.Calls.{refuse_bytes, read_check, read_of, responses_read, told_read, Stored}
 use Rattle.image.proofs.Unique.{stored_again}
 use Rattle.hosts.specs.Images.{Typed}
 use Rattle.hosts.proofs.Typed.{pulsed_responses, first_fits, stepped_typed}
-use Rattle.promises.proofs.Calls.{plain_pulse_meets, wide_pulse_meets, answer_meets, round_meets, start_meets, step_meets, read_meets}
+use Rattle.promises.proofs.Calls.{machine_in, plain_pulse_meets, wide_pulse_meets, answer_meets, round_meets, start_meets, step_meets, read_meets}
 use Rattle.cells.specs.contracts.pulse as plain-pulse
 use Rattle.cells.proofs.pulse.Kinds as plain-pulse-kinds
 use Rattle.cells.proofs.pulse.Reads as plain-pulse-reads
@@ -80,8 +76,8 @@ Stays m n = AreResponses m.responses → AreResponses n.responses
 
 by_check : (c : Check) (m n : Machine) → Stays m n → Stays m (change_by c n m)
 unfolding Stays
-by_check Passed m n h = h
-by_check (Refused why) m n h = λ t. t
+by_check (Ok tt) m n h = h
+by_check (Err why) m n h = λ t. t
 
 pub a_pulse : (m : Machine) (p : Panel) (l : Lines) → Stays m (after m p l)
 unfolding after Stays
@@ -121,30 +117,34 @@ so m n q h e k t = record { responses = rw e (k t.responses); job = t.job }
 
 -- ---- a job started, and an image read
 
-started_first : (c : Check) (o q : Job) → answer_by c started.Refused (started.Holds o) ≡ started.Holds q → q ≡ o
-started_first Passed o q e = cc
-started_first (Refused why) o q e = cc
+started_first : (c : Check) (o q : Job) → answer_by c o ≡ Ok q → q ≡ o
+started_first (Ok tt) o q e = cc
+started_first (Err why) o q e = cc
 
 -- the first n of what was read into a destination that is long enough
 first_of : (xs l : List ℕ) (n : ℕ) → n ≡ length xs → length xs ≤ length l → take n (sets l 0 xs) ≡ xs
 first_of xs l n e h = ap₂ take e (sets-eq xs l 0 (omega arith)) ∙ take_at xs (drop (0 + length xs) l) (length xs) refl
 
 record Reads (m : State) (c : Check) (w n : ℕ) (h : Held) : Type 0 where
-  pub check : c ≡ Passed
+  pub check : c ≡ Ok tt
   pub count : n ≡ length m.machine.words
   pub held : h ≡ m.held
 
-reads : (m : State) (c : Check) (w n : ℕ) (h : Held)
-    → answer_by c read_answer.Refused (read_answer.Machine m.machine.width (length m.machine.words) m.held) ≡ read_answer.Machine w n h → Reads m c w n h
-reads m Passed w n h e = record { check = refl; count = cc; held = cc }
-reads m (Refused why) w n h e = record { check = cc; count = cc; held = cc }
+reads : (m : State) (c : Check) (w n : ℕ) (h : Held) → answer_by c (machine_in m) ≡ Ok (record { width = w; words = n; held = h }) → Reads m c w n h
+reads m (Ok tt) w n h e =
+    record {
+      check = refl;
+      count = sym (ap (λ (q : Result Loaded Refusal). (told_read q).words) e);
+      held = sym (ap (λ (q : Result Loaded Refusal). (told_read q).held) e);
+    }
+reads m (Err why) w n h e = record { check = cc; count = cc; held = cc }
 
-sound_bytes : (c : Scanned) → refuse_bytes c ≡ Passed → c ≡ Sound
-sound_bytes Sound e = refl
-sound_bytes (Broken at) e = cc
+sound_bytes : (c : Scanned) → refuse_bytes c ≡ Ok tt → c ≡ Ok tt
+sound_bytes (Ok tt) e = refl
+sound_bytes (Err at) e = cc
 
-module _ (image ws rs : List ℕ) (bytes : AreBytes image) (e : read_check image (length ws) (length rs) ≡ Passed) where
-  was_sound : scanned image ≡ Sound
+module _ (image ws rs : List ℕ) (bytes : AreBytes image) (e : read_check image (length ws) (length rs) ≡ Ok tt) where
+  was_sound : scanned image ≡ Ok tt
   unfolding read_check
   was_sound = sound_bytes (scanned image) (else_passed (refuse_bytes (scanned image)) _ e).0
 
@@ -207,8 +207,8 @@ round_keeps κs a r s p h =
 
 -- of a job offered as its type has it
 pub start_keeps : (κs : Lfts 2) (a : ArgsD start.signature κs) (r : ResD start.signature κs) (s : AtExit (ended_of 2 start-kinds.ps start-kinds.r) κs)
-    → start-reads.Post κs a r s → (q : Job) → r ≡ started.Holds q → JobFits a.1.1.1.1.0
-    → Typed (state a.1.1.0 a.0.now a.1.0.now a.1.1.1.0) → Typed (state a.1.1.0 a.0.now a.1.0.now (Holds q))
+    → start-reads.Post κs a r s → (q : Job) → r ≡ Ok q → JobFits a.1.1.1.1.0
+    → Typed (state a.1.1.0 a.0.now a.1.0.now a.1.1.1.0) → Typed (state a.1.1.0 a.0.now a.1.0.now (Some q))
 unfolding start_of
 start_keeps κs a r s p q e f t =
     let m = machine a.1.1.0 a.0.now a.1.0.now in
@@ -223,7 +223,7 @@ step_keeps κs a r s p t = rw (step_meets κs a r s p).1.leaves (stepped_typed _
 
 -- of an image of bytes: the machine that reading leaves in the first n of each destination
 pub read_keeps : (κs : Lfts 3) (a : ArgsD read.signature κs) (r : ResD read.signature κs) (s : AtExit (ended_of 3 read-kinds.ps read-kinds.r) κs)
-    → read-reads.Post κs a r s → (w n : ℕ) (h : Held) → r ≡ read_answer.Machine w n h → AreBytes a.0.now
+    → read-reads.Post κs a r s → (w n : ℕ) (h : Held) → r ≡ Ok (record { width = w; words = n; held = h }) → AreBytes a.0.now
     → Typed (state w (take n s.1.0.now) (take n s.1.1.0.now) h)
 unfolding read_of
 read_keeps κs a r s p w n h e b =

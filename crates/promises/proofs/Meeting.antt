@@ -4,12 +4,12 @@ use mathlib.Core.Path.{◌≡◌, refl, ap, ◌∙◌}
 use mathlib.Core.Bool.{Bool, true, false, not, ◌&&◌, ◌||◌}
 use lib.Dec.{eqb}
 use lib.ListN.{length, get_or}
+use Rattle.std.specs.Prelude.{Ok}
 use Rattle.laws.specs.Bits.{bit, pick}
 use Rattle.laws.proofs.Digits.{Bit, off, on}
 use Rattle.laws.proofs.Bits.{digit_at, number_bit}
 use Rattle.machine.specs.declared.Panel.{Panel}
 use Rattle.machine.specs.declared.Lines.{Lines}
-use Rattle.machine.specs.declared.Check.TheVariants.{Passed}
 use Rattle.machine.specs.Machine.{Machine, selected, response}
 use Rattle.machine.specs.Pulse.{written, added, asks_flip, both_of, word_after}
 use Rattle.machine.specs.Refusals.{pulse_check, after}
@@ -30,7 +30,7 @@ write_asks n p w i h =
     go false c on = refl
 
 -- each bit of a word that an accepted pulse writes and adds to, by whichever lines
-pub flips_after : (m : Machine) (p : Panel) (l : Lines) → pulse_check m p l ≡ Passed → (k i : ℕ) → k < length m.words → i < m.width
+pub flips_after : (m : Machine) (p : Panel) (l : Lines) → pulse_check m p l ≡ Ok tt → (k i : ℕ) → k < length m.words → i < m.width
     → (l.write && eqb k p.address.0 || l.multiwrite && selected p.key p.care (response m k)) ≡ true
     → (l.add && eqb k p.address.0 || l.multiadd && selected p.key p.care (response m k)) ≡ true
     → let w = get_or m.words k 0 in

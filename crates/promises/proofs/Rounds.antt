@@ -4,29 +4,24 @@ use mathlib.Core.Path.{◌≡◌}
 use mathlib.Core.Bool.{false}
 use mathlib.Core.List.{List}
 use lib.ListN.{length, take, drop, get_or}
+use Rattle.std.specs.Prelude.{Some, None, Ok}
 use Rattle.laws.specs.Bits.{bit}
 use Rattle.machine.specs.declared.Panel.{Panel}
 use Rattle.machine.specs.declared.Lines.{Lines}
 use Rattle.machine.specs.declared.WordSlice.{WordSlice}
 use Rattle.machine.specs.declared.ResponseBit.{ResponseBit}
-use Rattle.machine.specs.declared.Check.TheVariants.{Passed}
 use Rattle.machine.specs.Machine.{Machine, response_bits}
 use Rattle.machine.specs.Refusals.{pulse_check, after}
-use Rattle.resolver.specs.declared.Resolved.TheVariants as resolved
 use Rattle.job_plans.specs.declared.Job.{Job}
-use Rattle.job_plans.specs.declared.Held.{Held}
-use Rattle.job_plans.specs.declared.Held.TheVariants.{Holds}
 use Rattle.job_plans.specs.declared.Command.{Command}
-use Rattle.jobs.specs.declared.Stepped.TheVariants as answer
+use Rattle.job_plans.specs.Fields.{Held}
 use Rattle.jobs.specs.Calls.{step_of, after_step}
 use Rattle.jobs.specs.Runs.{State, stepped}
 use Rattle.rounds.specs.declared.Verdict.{Verdict}
 use Rattle.rounds.specs.declared.Verdict.TheVariants.{Done, Faulty}
-use Rattle.rounds.specs.declared.Reply.TheVariants as reply
 use Rattle.rounds.specs.Round.{Fit, round_check, shown, show_of, reply_of, after_answer}
 use Rattle.rounds.specs.Handout.{responders, responder, response, NotAmong, first_of, Answers}
 use Rattle.rounds.proofs.Handout.{handed_out}
-use Rattle.handout.specs.declared.Report.TheVariants as report
 use Rattle.handout.specs.Whole.{report_of, after_round}
 use Rattle.image_layout.specs.Format.{image_of}
 use Rattle.hosts.specs.Images.{Stores, Resumes, Typed}
@@ -78,7 +73,7 @@ module _ {x f : ResponseBit} {before after : Machine} {vs : List Verdict} (answe
 -- and other calls that leave X and F alone s stands now, `image` is the last stored, vs are the answers that are stored, and `book` has the words
 -- shown and the stops
 
-module _ (x f : ResponseBit) (b : State) (fine : round_check x f b.machine ≡ Passed) (typed : Typed b) where
+module _ (x f : ResponseBit) (b : State) (fine : round_check x f b.machine ≡ Ok tt) (typed : Typed b) where
   -- a word that is shown was a responder in the first image, with exactly as many lower ones as answers are stored
   pub shown_was_next : {s : State} {image : List ℕ} {k : ℕ} {vs : List Given} {book : List Entry} → Hosted x f b s image (showing k) vs book
       → Responder x b.machine k × (lower x b.machine k ≡ length vs)
@@ -86,29 +81,29 @@ module _ (x f : ResponseBit) (b : State) (fine : round_check x f b.machine ≡ P
 
   -- asked again, show gives that word again: after a show, and after an answer that was turned down
   pub asked_gives_the_same : {s : State} {image : List ℕ} {k : ℕ} {vs : List Given} {book : List Entry} → Hosted x f b s image (showing k) vs book
-      → show_of x s.machine ≡ resolved.At (record { 0 = k })
+      → show_of x s.machine ≡ Ok (Some (record { 0 = k }))
   asked_gives_the_same = same_again x f b fine typed
 
   -- its answer is accepted, done or faulty, and no other word's is; a refused one changes nothing (Demand1, `answer_unchanged`)
   pub shown_can_be_answered : {s : State} {image : List ℕ} {k : ℕ} {vs : List Given} {book : List Entry} → Hosted x f b s image (showing k) vs book
-      → reply_of x f (record { 0 = k }) s.machine ≡ reply.Taken
+      → reply_of x f (record { 0 = k }) s.machine ≡ Ok tt
   shown_can_be_answered = answerable x f b fine typed
 
   pub only_shown_can_be : {s : State} {image : List ℕ} {j : ℕ} {vs : List Given} {book : List Entry} → Hosted x f b s image (showing j) vs book
-      → (k : WordSlice) → reply_of x f k s.machine ≡ reply.Taken → k.0 ≡ j
+      → (k : WordSlice) → reply_of x f k s.machine ≡ Ok tt → k.0 ≡ j
   only_shown_can_be = taken_is_shown x f b fine typed
 
   -- before a show: an image of vs is stored, and no answer is given that isn't
   module _ {s : State} {image : List ℕ} {vs : List Given} {book : List Entry} (hosted : Hosted x f b s image ready vs book) where
     -- a responder with k lower ones is the one shown after exactly k stored answers
-    pub next_is_shown : (k : ℕ) → Responder x b.machine k → lower x b.machine k ≡ length vs → show_of x s.machine ≡ resolved.At (record { 0 = k })
+    pub next_is_shown : (k : ℕ) → Responder x b.machine k → lower x b.machine k ≡ length vs → show_of x s.machine ≡ Ok (Some (record { 0 = k }))
     next_is_shown = is_next x f b fine typed hosted
 
     -- the round ends after as many stored answers as there were responders, and only then
-    pub ends_after_all : show_of x s.machine ≡ resolved.Nothing → length vs ≡ length (responders x b.machine)
+    pub ends_after_all : show_of x s.machine ≡ Ok None → length vs ≡ length (responders x b.machine)
     ends_after_all = ends x f b fine typed hosted
 
-    pub after_all_ends : length vs ≡ length (responders x b.machine) → show_of x s.machine ≡ resolved.Nothing
+    pub after_all_ends : length vs ≡ length (responders x b.machine) → show_of x s.machine ≡ Ok None
     after_all_ends = over x f b fine typed hosted
 
     -- F marks exactly the ones answered faulty, and stored, among them: those answered done and all other words have it as before
@@ -124,7 +119,7 @@ module _ (x f : ResponseBit) (b : State) (fine : round_check x f b.machine ≡ P
     others_have_f_as_before = others_have x f b fine typed hosted
 
     -- the finished round: when show gives none
-    pub finished : show_of x s.machine ≡ resolved.Nothing → Finished x f b.machine s.machine vs book
+    pub finished : show_of x s.machine ≡ Ok None → Finished x f b.machine s.machine vs book
     finished = over-stops.finished x f b fine typed hosted
 
   module _ {s : State} {image : List ℕ} {phase : Phase} {vs : List Given} {book : List Entry} (hosted : Hosted x f b s image phase vs book) where
@@ -135,7 +130,7 @@ module _ (x f : ResponseBit) (b : State) (fine : round_check x f b.machine ≡ P
     -- "From an older image the round is the one that stood then": wherever the round went on to after `hosted`, from the image that was the last
     -- there it shows the responder that was the next then
     pub from_older_image : {words responses : List ℕ} {t : State} → Resumes words responses image t → (k : ℕ) → Responder x b.machine k → lower x b.machine k ≡ length vs
-        → show_of x t.machine ≡ resolved.At (record { 0 = k })
+        → show_of x t.machine ≡ Ok (Some (record { 0 = k }))
     from_older_image resumes = next_is_shown (stops hosted resumes)
 
     -- the stored answers are the lowest responders', in rising order, one each
@@ -160,7 +155,7 @@ module _ (x f : ResponseBit) (b : State) (fine : round_check x f b.machine ≡ P
 
 -- ---- two rounds side by side, over four different bits, their calls in any order (`Both`)
 
-module _ (x f y g : ResponseBit) (b c : State) (fine : round_check x f b.machine ≡ Passed) (also : round_check y g c.machine ≡ Passed)
+module _ (x f y g : ResponseBit) (b c : State) (fine : round_check x f b.machine ≡ Ok tt) (also : round_check y g c.machine ≡ Ok tt)
     (typed : Typed b) (x_apart : Beside y g x) (f_apart : Beside y g f) where
   module _ {s : State} {image : List ℕ} {phase turn : Phase} {vs us : List Given} {book log : List Entry}
       (both : Both x f y g b c s image phase vs book turn us log) where
@@ -183,16 +178,16 @@ module _ (x f y g : ResponseBit) (b c : State) (fine : round_check x f b.machine
 
   pub one_shows_next : {s : State} {image : List ℕ} {turn : Phase} {vs us : List Given} {book log : List Entry}
       → Both x f y g b c s image ready vs book turn us log → (k : ℕ) → Responder x b.machine k → lower x b.machine k ≡ length vs
-      → show_of x s.machine ≡ resolved.At (record { 0 = k })
+      → show_of x s.machine ≡ Ok (Some (record { 0 = k }))
   one_shows_next both = next_is_shown x f b fine typed (one_as_if_alone both)
 
   pub other_shows_next : {s : State} {image : List ℕ} {phase : Phase} {vs us : List Given} {book log : List Entry}
       → Both x f y g b c s image phase vs book ready us log → (k : ℕ) → Responder y c.machine k → lower y c.machine k ≡ length us
-      → show_of y s.machine ≡ resolved.At (record { 0 = k })
+      → show_of y s.machine ≡ Ok (Some (record { 0 = k }))
   other_shows_next both = next_is_shown y g c also (typed_there_too both) (other_as_if_alone both)
 
   pub both_finished : {s : State} {image : List ℕ} {vs us : List Given} {book log : List Entry} → Both x f y g b c s image ready vs book ready us log
-      → show_of x s.machine ≡ resolved.Nothing → show_of y s.machine ≡ resolved.Nothing
+      → show_of x s.machine ≡ Ok None → show_of y s.machine ≡ Ok None
       → Finished x f b.machine s.machine vs book × Finished y g c.machine s.machine us log
   both_finished both p q =
       (finished x f b fine typed (one_as_if_alone both) p, finished y g c also (typed_there_too both) (other_as_if_alone both) q)
@@ -200,25 +195,25 @@ module _ (x f y g : ResponseBit) (b c : State) (fine : round_check x f b.machine
 -- ---- which calls leave X and F alone: pulses whose target has neither, or that raise neither search nor complement; steps of jobs that work on
 -- neither; answers and whole rounds over other bits; and every call that lends by & only or lends the panel alone (`Looks`)
 
-pub pulse_with_other_target : (x f : ResponseBit) (m : Machine) (p : Panel) (l : Lines) → pulse_check m p l ≡ Passed → Fit x f → bit p.target x.0 ≡ 0
+pub pulse_with_other_target : (x f : ResponseBit) (m : Machine) (p : Panel) (l : Lines) → pulse_check m p l ≡ Ok tt → Fit x f → bit p.target x.0 ≡ 0
     → bit p.target f.0 ≡ 0 → Leaves x f m (after m p l)
 pulse_with_other_target = target_spares
 
-pub pulse_without_target : (x f : ResponseBit) (m : Machine) (p : Panel) (l : Lines) → pulse_check m p l ≡ Passed → l.search ≡ false → l.complement ≡ false
+pub pulse_without_target : (x f : ResponseBit) (m : Machine) (p : Panel) (l : Lines) → pulse_check m p l ≡ Ok tt → l.search ≡ false → l.complement ≡ false
     → Leaves x f m (after m p l)
 pulse_without_target = lines_spare
 
-pub step_with_other_bits : (x f : ResponseBit) → Fit x f → (s : State) (o : Job) → s.held ≡ Holds o → Apart o x → Apart o f → {k : Command} {c : ℕ} {h : Held}
-    → step_of s.machine s.held ≡ answer.Gave k c h → Leaves x f s.machine (after_step s.machine s.held)
+pub step_with_other_bits : (x f : ResponseBit) → Fit x f → (s : State) (o : Job) → s.held ≡ Some o → Apart o x → Apart o f → {k : Command} {c : ℕ} {h : Held}
+    → step_of s.machine s.held ≡ Ok (record { command = k; count = c; held = h }) → Leaves x f s.machine (after_step s.machine s.held)
 unfolding stepped
 step_with_other_bits = step_spares
 
 pub answer_over_other_bits : (x f : ResponseBit) → Fit x f → (y g : ResponseBit) → Beside y g x → Beside y g f → (m : Machine) (k : WordSlice) (v : Verdict)
-    → reply_of y g k m ≡ reply.Taken → Leaves x f m (after_answer y g k v m)
+    → reply_of y g k m ≡ Ok tt → Leaves x f m (after_answer y g k v m)
 answer_over_other_bits = answer_spares
 
 pub round_over_other_bits : (x f : ResponseBit) → Fit x f → (y g : ResponseBit) → Beside y g x → Beside y g f → (m : Machine) (vs : List ℕ) {done faulty : ℕ}
-    → report_of y g vs m ≡ report.Ended done faulty → Leaves x f m (after_round y g vs m)
+    → report_of y g vs m ≡ Ok (record { done = done; faulty = faulty }) → Leaves x f m (after_round y g vs m)
 round_over_other_bits = round_spares
 
 -- show, resolution, total, start, writing and the loads

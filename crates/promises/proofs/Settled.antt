@@ -2,13 +2,6 @@
 -- meeting it are equal." Each theorem speaks of the contract as the call's own source states it: `Post` of the call, of its arguments a, an
 -- answer r and what stands behind the lent references at exit, s. What is lent by & cannot change.
 use mathlib.Core.Path.{◌≡◌, sym, ◌∙◌}
-use seplogic.Ra.Ura.{Ura}
-use mir.Syntax.{w8, w64}
-use base.Logic.{SProp}
-use prog.Memory.{Memory}
-use prog.Routine.{Routine}
-use types.Logic.{Logic}
-use contract.Monad.{Fun}
 use contract.Lifetimes.{Lfts}
 use borrow.Fn.World.{ArgsD, ResD}
 use borrow.Fn.Kinds.{ended_of}
@@ -172,7 +165,7 @@ pub read_settled : (κs : Lfts 3) (a : ArgsD read.signature κs) (r r' : ResD re
     → read-reads.Post κs a r s → read-reads.Post κs a r' s' → (r ≡ r') × (s.1.0.now ≡ s'.1.0.now) × (s.1.1.0.now ≡ s'.1.1.0.now)
 read_settled κs a r r' s s' h g = (h.0 ∙ sym g.0, h.1.0 ∙ sym g.1.0, h.1.1 ∙ sym g.1.1)
 
--- the nine loads by value: each contract says `load` of its register's number
+-- the ten loads by value: each contract says `load` of its register's number
 pub own_comp_settled : (κs : Lfts 0) (a : ArgsD own-comp.signature κs) (r r' : ResD own-comp.signature κs) (s s' : AtExit (ended_of 0 own-comp-kinds.ps own-comp-kinds.r) κs)
     → own-comp-reads.Post κs a r s → own-comp-reads.Post κs a r' s' → r ≡ r'
 own_comp_settled κs a r r' s s' h g = same_panel r r' (h ∙ sym g)

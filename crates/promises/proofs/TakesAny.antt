@@ -1,16 +1,7 @@
 -- Demand 1: "Every call takes any input": the precondition of each public call, as its own source states it (`Pre` of the call), holds for any
 -- arguments a.
-use seplogic.Ra.Ura.{Ura}
-use mir.Syntax.{w8, w64}
-use base.Logic.{SProp, ent, emp, id⊢}
-use prog.Memory.{Memory}
-use prog.Routine.{Routine}
-use types.Logic.{Logic}
-use contract.Monad.{Fun}
 use contract.Lifetimes.{Lfts}
 use borrow.Fn.World.{ArgsD}
-use denote.Triple.Entry.{Args}
-use denote.Triple.Clauses.{Clauses}
 use Rattle.cells.specs.contracts.pulse as plain-pulse
 use Rattle.cells.proofs.pulse.Reads as plain-pulse-reads
 use Rattle.wide.specs.contracts.pulse as wide-pulse
