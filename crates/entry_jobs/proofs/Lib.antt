@@ -1,2 +1,0 @@
--- laws of the entry points of jobs
-pub mod Entries
