@@ -116,12 +116,6 @@ pub else_assoc : (b c d : Check) → ((b else c) else d) ≡ (b else c else d)
 else_assoc (Ok tt) c d = refl
 else_assoc (Err r) c d = refl
 
-pub else_refused : (r : Refusal) (c d : Check) → c ≡ Err r → Err r ≡ (c else d)
-else_refused r c d h = rw h
-
-pub else_next : (c d e : Check) → c ≡ Ok tt → e ≡ d → e ≡ (c else d)
-else_next c d e h g = rw h g
-
 pub not_refused : (r : Refusal) (t : Bool) → refuse r t ≡ Ok tt → t ≡ false
 not_refused r true h = cc
 not_refused r false h = refl

@@ -8,7 +8,7 @@ ghost use Rattle.machine.specs.Panel.{registers, panel_of, load};
 ghost use Rattle.machine.specs.Machine.{machine, response_bits, selected};
 ghost use Rattle.machine.specs.Resolution.{lowest};
 ghost use Rattle.machine.specs.Words.{union};
-ghost use Rattle.machine.specs.Refusals.{bad_size, bad_width, too_wide, bad_panel, bad_lines, bad_address, in_care, ◌else◌, refuse, refuse_word, machine_check, command_check, bit_check, apart_check, care_check, value_of, number_of, also_answers, turn};
+ghost use Rattle.machine.specs.Refusals.{bad_size, bad_width, too_wide, bad_panel, bad_lines, bad_address, in_care, refuse, refuse_word, machine_check, command_check, bit_check, apart_check, care_check, value_of, number_of, also_answers, turn};
 
 // A word's response bits, and how many they are: named once.
 pub type Response = u8;
@@ -313,14 +313,6 @@ pub fn refuse<R: Drop>(why: R, when: bool) -> Result<(), R>
     ensures { result ≡ refuse why when }
 {
     if when { Err(why) } else { Ok(()) }
-}
-
-// The first check, and where it passes the second.
-pub fn in_order(first: Result<(), Refusal>, second: Result<(), Refusal>) -> Result<(), Refusal>
-    ensures { result ≡ (first else second) }
-{
-    first?;
-    second
 }
 
 // ---- the checks that calls share, in the table's order
