@@ -1,15 +1,13 @@
 -- Writing and reading an image for callers in other languages: what is refused, told and left (house, but for the calls' own definitions;
 -- docs/DECISIONS.md, 'The library for C').
-use Rattle.std.specs.Prelude.{ℕ, List, [], ◌∷◌, length}
+use Rattle.std.specs.Prelude.{ℕ, List, [], ◌∷◌, Result, Ok, Err, length}
 use Rattle.std.proofs.lemmas.List.Edits.{sets}
-use Rattle.machine.specs.declared.Check.{Check}
-use Rattle.machine.specs.Refusals.{answer_by, change_by}
+use Rattle.machine.specs.declared.Refusal.{Refusal}
+use Rattle.machine.specs.Refusals.{Check, answer_by, change_by}
 use Rattle.jobs.specs.Runs.{State}
 use Rattle.image_layout.specs.Format.{image_of}
 use Rattle.image_layout.specs.Reading.{state_in}
-use Rattle.image.specs.declared.Wrote.TheVariants as wrote
-use Rattle.image.specs.declared.Read.{Read}
-use Rattle.image.specs.declared.Read.TheVariants as read
+use Rattle.image.specs.declared.Loaded.{Loaded}
 use Rattle.image.specs.Calls.{write_check, read_check, ToldWrote, told_wrote, ToldRead, told_read}
 use Rattle.entry_forms.specs.Numbers.{lower, room_check, tell_in}
 use Rattle.entry_forms.specs.Records.{record_check, held_check, record_of, count_held}
@@ -29,7 +27,7 @@ unfoldable pub write_entry : State → List ℕ → List ℕ → ℕ → Check
 write_entry s job image room = lower (write_own job room) (write_check s (length image))
 
 unfoldable pub write_told : State → List ℕ → List ℕ → ℕ → ToldWrote
-write_told s job image room = told_wrote (answer_by (write_entry s job image room) wrote.Refused (wrote.Length (length (image_of s))))
+write_told s job image room = told_wrote (answer_by (write_entry s job image room) (length (image_of s)))
 
 unfoldable pub write_left : State → List ℕ → List ℕ → ℕ → List ℕ
 write_left s job image room = change_by (write_entry s job image room) (sets image 0 (image_of s)) image
@@ -49,10 +47,10 @@ read_own job room = lower (record_check job) (room_check read_size room)
 unfoldable pub read_entry : List ℕ → ℕ → ℕ → List ℕ → ℕ → Check
 read_entry image words responses job room = lower (read_own job room) (read_check image words responses)
 
-abbrev pub read_by : Check → List ℕ → Read
+abbrev pub read_by : Check → List ℕ → Result Loaded Refusal
 read_by c image =
     let s = state_in image in
-    answer_by c read.Refused (read.Machine s.machine.width (length s.machine.words) s.held)
+    answer_by c (record { width = s.machine.width; words = length s.machine.words; held = s.held })
 
 unfoldable pub read_told : List ℕ → ℕ → ℕ → List ℕ → ℕ → ToldRead
 read_told image words responses job room = told_read (read_by (read_entry image words responses job room) image)
@@ -63,9 +61,9 @@ words_left image ws rs job room = change_by (read_entry image (length ws) (lengt
 unfoldable pub responses_left : List ℕ → List ℕ → List ℕ → List ℕ → ℕ → List ℕ
 responses_left image ws rs job room = change_by (read_entry image (length ws) (length rs) job room) (sets rs 0 (state_in image).machine.responses) rs
 
-abbrev pub read_in : Read → List ℕ → List ℕ
-read_in (read.Machine width words held) job = tell_in (record_of held) job
-read_in (read.Refused r) job = job
+abbrev pub read_in : Result Loaded Refusal → List ℕ → List ℕ
+read_in (Ok m) job = tell_in (record_of m.held) job
+read_in (Err r) job = job
 
 unfoldable pub record_left : List ℕ → ℕ → ℕ → List ℕ → ℕ → List ℕ
 record_left image words responses job room = read_in (read_by (read_entry image words responses job room) image) job

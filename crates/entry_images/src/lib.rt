@@ -3,46 +3,72 @@
 #![tactic(auto)]
 
 ghost use Rattle.std.specs.Prelude.{◌≡◌, length};
+ghost use Rattle.std.proofs.lemmas.List.Edits.{sets};
+ghost use Rattle.machine.specs.Refusals.{answer_by, change_by};
 ghost use Rattle.jobs.specs.Runs.{state};
-ghost use Rattle.image.specs.Calls.{told_wrote, told_read};
-ghost use Rattle.entry_forms.specs.Numbers.{tell_in};
+ghost use Rattle.image_layout.specs.Format.{image_of};
+ghost use Rattle.image_layout.specs.Reading.{state_in};
+ghost use Rattle.image.specs.Calls.{write_check, read_check, told_wrote, told_read};
+ghost use Rattle.entry_forms.specs.Numbers.{lower, tell_in};
 ghost use Rattle.entry_forms.specs.Records.{held_in};
 ghost use Rattle.entry_images.specs.Entries as entries;
 
 use entry_forms::records::{check_held, check_record, count_held, held_of, put_record};
 use entry_forms::{check_room, lower, lower_of, number_of, tell};
-use image::{Read, Wrote};
-use machine::{Check, Response};
+use image::Loaded;
+use job_plans::Job;
+use machine::{Refusal, Response};
 
 // ---- writing
 
 const WRITE_SIZE: usize = 3;
 
-fn check_write(job: &[u8], room: usize) -> Check
+fn check_write(job: &[u8], room: usize) -> Result<(), Refusal>
     ensures { result ≡ entries.write_own job.now room }
 {
     lower(check_held(job), check_room(WRITE_SIZE, room))
 }
 
-fn tell_wrote(answer: &mut [u64], wrote: Wrote) -> u32
+// The image written, or where the arguments do not pass by themselves the lower refusal of the two.
+#[tactic(auto, unfolding(image::specs::Calls::write_of, image::specs::Calls::written))]
+fn write(
+    own: Result<(), Refusal>,
+    words: &[u64],
+    responses: &[Response],
+    width: u32,
+    held: Option<Job>,
+    image: &mut [u8],
+) -> Result<usize, Refusal>
+    ensures value { let s = state width words.now responses.now held in result ≡ answer_by (lower own (write_check s (length image.old))) (length (image_of s)) }
+    ensures image_after { let s = state width words.now responses.now held in image.new ≡ change_by (lower own (write_check s (length image.old))) (sets image.old 0 (image_of s)) image.old }
+{
+    match own {
+        Ok(()) => image::writing::write(words, responses, width, held, image),
+        Err(why) => {
+            let other = image::writing::check_write(words, responses, width, held, image.len());
+            Err(lower_of(why, other))
+        }
+    }
+}
+
+fn tell_wrote(answer: &mut [u64], wrote: Result<usize, Refusal>) -> u32
     ensures value { result ≡ (told_wrote wrote).refusal }
     ensures answer_after { answer.new ≡ tell_in (entries.write_numbers (told_wrote wrote)) answer.old }
 {
     match wrote {
-        Wrote::Length(size) => {
-            let numbers = [0, 0, size as u64];
-            tell(answer, &numbers);
+        Ok(size) => {
+            tell(answer, &[0, 0, size as u64]);
             0
         }
-        Wrote::Refused(why) => {
-            let numbers = [machine::number_of(why), machine::also_of(why), 0];
-            tell(answer, &numbers);
+        Err(why) => {
+            tell(answer, &[machine::number_of(why), machine::also_of(why), 0]);
             number_of(why)
         }
     }
 }
 
 #[unsafe(no_mangle)]
+#[tactic(auto, unfolding(crate::specs::Entries::write_told, crate::specs::Entries::write_left, crate::specs::Entries::write_entry))]
 pub extern "C" fn dushvaneth_write(
     words: &[u64],
     responses: &[Response],
@@ -55,65 +81,74 @@ pub extern "C" fn dushvaneth_write(
     ensures answer_after { answer.new ≡ tell_in (entries.write_numbers (entries.write_told (state width words.now responses.now (held_in job.now)) job.now image.old (length answer.old))) answer.old }
     ensures image_after { image.new ≡ entries.write_left (state width words.now responses.now (held_in job.now)) job.now image.old (length answer.old) }
 {
-    let holds = held_of(job);
     let own = check_write(job, answer.len());
-    match own {
-        Check::Passed => {
-            let wrote = image::writing::write(words, responses, width, holds, image);
-            tell_wrote(answer, wrote)
-        }
-        Check::Refused(why) => {
-            let other = image::writing::check_write(words, responses, width, holds, image.len());
-            tell_wrote(answer, Wrote::Refused(lower_of(why, other)))
-        }
-    }
+    let wrote = write(own, words, responses, width, held_of(job), image);
+    tell_wrote(answer, wrote)
 }
 
 // ---- reading
 
 const READ_SIZE: usize = 5;
 
-fn check_read(job: &[u8], room: usize) -> Check
+fn check_read(job: &[u8], room: usize) -> Result<(), Refusal>
     ensures { result ≡ entries.read_own job.now room }
 {
     lower(check_record(job), check_room(READ_SIZE, room))
 }
 
-fn tell_read(answer: &mut [u64], found: Read) -> u32
+// The image read, or where the arguments do not pass by themselves the lower refusal of the two.
+#[tactic(auto, unfolding(image::specs::Calls::read_of, image::specs::Calls::words_read, image::specs::Calls::responses_read))]
+fn read(
+    own: Result<(), Refusal>,
+    image: &[u8],
+    words: &mut [u64],
+    responses: &mut [Response],
+) -> Result<Loaded, Refusal>
+    ensures value { result ≡ entries.read_by (lower own (read_check image.now (length words.old) (length responses.old))) image.now }
+    ensures words_after { words.new ≡ change_by (lower own (read_check image.now (length words.old) (length responses.old))) (sets words.old 0 (state_in image.now).machine.words) words.old }
+    ensures responses_after { responses.new ≡ change_by (lower own (read_check image.now (length words.old) (length responses.old))) (sets responses.old 0 (state_in image.now).machine.responses) responses.old }
+{
+    match own {
+        Ok(()) => image::reading::read(image, words, responses),
+        Err(why) => {
+            let other = image::reading::check_read(image, words.len(), responses.len());
+            Err(lower_of(why, other))
+        }
+    }
+}
+
+fn tell_read(answer: &mut [u64], found: Result<Loaded, Refusal>) -> u32
     ensures value { result ≡ (told_read found).refusal }
     ensures answer_after { answer.new ≡ tell_in (entries.read_numbers (told_read found)) answer.old }
 {
     match found {
-        Read::Machine { width, words, held } => {
-            let bits = width as u64;
-            let n = words as u64;
-            let numbers = [0, 0, bits, n, count_held(held)];
-            tell(answer, &numbers);
+        Ok(loaded) => {
+            let bits = u64::from(loaded.width);
+            let n = loaded.words as u64;
+            tell(answer, &[0, 0, bits, n, count_held(loaded.held)]);
             0
         }
-        Read::Refused(why) => {
-            let numbers = [machine::number_of(why), machine::also_of(why), 0, 0, 0];
-            tell(answer, &numbers);
+        Err(why) => {
+            tell(
+                answer,
+                &[machine::number_of(why), machine::also_of(why), 0, 0, 0],
+            );
             number_of(why)
         }
     }
 }
 
 // The record of the job that an image holds; as it was after a refusal.
-fn keep_read(job: &mut [u8], found: Read)
+fn keep_read(job: &mut [u8], found: Result<Loaded, Refusal>)
     ensures { job.new ≡ entries.read_in found job.old }
 {
-    if let Read::Machine {
-        width: _,
-        words: _,
-        held,
-    } = found
-    {
-        put_record(job, held);
+    if let Ok(loaded) = found {
+        put_record(job, loaded.held);
     }
 }
 
 #[unsafe(no_mangle)]
+#[tactic(auto, unfolding(crate::specs::Entries::read_told, crate::specs::Entries::words_left, crate::specs::Entries::responses_left, crate::specs::Entries::record_left, crate::specs::Entries::read_entry))]
 pub extern "C" fn dushvaneth_read(
     image: &[u8],
     words: &mut [u64],
@@ -128,15 +163,7 @@ pub extern "C" fn dushvaneth_read(
     ensures job_after { job.new ≡ entries.record_left image.now (length words.old) (length responses.old) job.old (length answer.old) }
 {
     let own = check_read(job, answer.len());
-    match own {
-        Check::Passed => {
-            let found = image::reading::read(image, words, responses);
-            keep_read(job, found);
-            tell_read(answer, found)
-        }
-        Check::Refused(why) => {
-            let other = image::reading::check_read(image, words.len(), responses.len());
-            tell_read(answer, Read::Refused(lower_of(why, other)))
-        }
-    }
+    let found = read(own, image, words, responses);
+    keep_read(job, found);
+    tell_read(answer, found)
 }

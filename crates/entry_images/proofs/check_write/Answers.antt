@@ -1,7 +1,0 @@
-use mathlib.Core.Path.{ap₂, ◌∙◌}
-use Rattle.entry_forms.specs.Numbers.{lower}
-use borrow.Author.Rules.{rules}
-use Rattle.entry_images.proofs.check_write.Goals as goal
-
-pub returns : goal.returns
-returns c = c.lower.ensures ∙ ap₂ lower c.check_held.ensures c.check_room.ensures
