@@ -9,13 +9,13 @@ use Rattle.std.specs.Prelude.{Some, None, Result, Ok, Err}
 use Rattle.laws.specs.Bits.{pick}
 use Rattle.machine.specs.declared.Refusal.{Refusal}
 use Rattle.machine.specs.Machine.{Machine}
-use Rattle.machine.specs.Refusals.{Check, answer_by}
+use Rattle.machine.specs.Refusals.{Check, refuse, machine_check, answer_by}
 use Rattle.machine.proofs.Refusals.{else_passed, not_refused}
 use Rattle.job_plans.specs.declared.Job.{Job}
 use Rattle.job_plans.specs.Fields.{Held}
 use Rattle.job_plans.specs.Places.{first, at_first, none_held, step_check}
 use Rattle.job_plans.proofs.Fair.{used_fields}
-use Rattle.job_plans.proofs.Places.{good, fair_held, step_none}
+use Rattle.job_plans.proofs.Places.{good, fair_held}
 use Rattle.job_tally.specs.Totals.{pulses, first_check, total_check, total_of}
 use Rattle.jobs.specs.declared.Stepped.{Stepped}
 use Rattle.jobs.specs.Calls.{start_check, given_by, step_of}
@@ -83,8 +83,10 @@ module _ (m : Machine) (o : Job) (ok : total_check m (Some o) ≡ Ok tt) where
 
 -- no number where nothing is
 total_none : (m : Machine) → total_check m None ≡ Ok tt → ⊥
-unfolding total_check
-total_none m e = step_none m None (else_passed (step_check m None) (first_check None) e).0 refl
+unfolding total_check step_check
+total_none m e =
+    let h = (else_passed (machine_check m) (refuse none_held true) (else_passed (step_check m None) (first_check None) e).0).1 in
+    cc (not_refused none_held true h)
 
 told : (c : Check) (n k : ℕ) → answer_by c n ≡ Ok k → (c ≡ Ok tt) × (n ≡ k)
 told (Ok tt) n k e = (refl, cc)
