@@ -3,14 +3,10 @@
 use Rattle.std.specs.Prelude.{ℕ, List, [], ◌∷◌, eqb}
 use Rattle.machine.specs.declared.ResponseBit.{ResponseBit}
 use Rattle.machine.specs.declared.WordSlice.{WordSlice}
-use Rattle.machine.specs.declared.Check.{Check}
 use Rattle.machine.specs.Machine.{Machine}
-use Rattle.machine.specs.Refusals.{answer_by, change_by}
-use Rattle.resolver.specs.declared.Resolved.TheVariants as found
+use Rattle.machine.specs.Refusals.{Check, answer_by, change_by}
 use Rattle.resolver.specs.Answers as resolving
-use Rattle.rounds.specs.declared.Reply.TheVariants as reply
 use Rattle.rounds.specs.Round.{shown, show_check, answer_check, answered_at, round_check, told}
-use Rattle.handout.specs.declared.Report.TheVariants as report
 use Rattle.handout.specs.Whole as whole
 use Rattle.entry_forms.specs.Numbers.{lower, room_check, resolved_size}
 
@@ -26,7 +22,7 @@ word_of k = record { 0 = k }
 unfoldable pub show_told : ℕ → Machine → ℕ → resolving.Told
 show_told x m room =
     resolving.told
-    (answer_by (lower (room_check resolved_size room) (show_check (bit_of x) m)) found.Refused (resolving.as_resolved (shown (bit_of x) m)))
+    (answer_by (lower (room_check resolved_size room) (show_check (bit_of x) m)) (shown (bit_of x) m))
 
 -- ---- answer: 1 says done, any other number faulty
 
@@ -40,7 +36,7 @@ unfoldable pub answer_entry : ℕ → ℕ → ℕ → Machine → ℕ → Check
 answer_entry x f k m room = lower (room_check reply_size room) (answer_check (bit_of x) (bit_of f) (word_of k) m)
 
 unfoldable pub answer_told : ℕ → ℕ → ℕ → Machine → ℕ → ℕ × ℕ
-answer_told x f k m room = told (answer_by (answer_entry x f k m room) reply.Refused reply.Taken)
+answer_told x f k m room = told (answer_entry x f k m room)
 
 unfoldable pub answer_left : ℕ → ℕ → ℕ → ℕ → Machine → ℕ → Machine
 answer_left x f k verdict m room =
@@ -58,7 +54,7 @@ unfoldable pub round_entry : ℕ → ℕ → Machine → ℕ → Check
 round_entry x f m room = lower (room_check report_size room) (round_check (bit_of x) (bit_of f) m)
 
 unfoldable pub round_told : ℕ → ℕ → List ℕ → Machine → ℕ → whole.Told
-round_told x f verdicts m room = whole.told (answer_by (round_entry x f m room) report.Refused (whole.ended (bit_of x) verdicts m))
+round_told x f verdicts m room = whole.told (answer_by (round_entry x f m room) (whole.ended (bit_of x) verdicts m))
 
 unfoldable pub round_left : ℕ → ℕ → List ℕ → Machine → ℕ → Machine
 round_left x f verdicts m room = change_by (round_entry x f m room) (whole.after_ended (bit_of x) (bit_of f) verdicts m) m

@@ -12,13 +12,13 @@ ghost use Rattle.entry_rounds.specs.Entries as entries;
 
 use entry_forms::{RESOLVED_SIZE, check_room, lower_of, number_of, tell, tell_resolved};
 use handout::Report;
-use machine::{Check, Response, ResponseBit, WordSlice};
-use resolver::Resolved;
-use rounds::{Reply, Verdict};
+use machine::{Refusal, Response, ResponseBit, WordSlice, also_of};
+use rounds::{Verdict, check_answer, check_round, check_show};
 
 // ---- show
 
 #[unsafe(no_mangle)]
+#[tactic(auto, unfolding(crate::specs::Entries::show_told, rounds::specs::Round::show_of))]
 pub extern "C" fn dushvaneth_show(
     words: &[u64],
     responses: &[Response],
@@ -30,36 +30,28 @@ pub extern "C" fn dushvaneth_show(
     ensures answer_after { answer.new ≡ tell_in (resolved_numbers (entries.show_told x (machine width words.now responses.now) (length answer.old))) answer.old }
 {
     let mark = ResponseBit(x);
-    let own = check_room(RESOLVED_SIZE, answer.len());
-    match own {
-        Check::Passed => {
-            let found = rounds::show(words, responses, width, mark);
-            tell_resolved(answer, found)
-        }
-        Check::Refused(why) => {
-            let other = rounds::check_show(words, responses, width, mark);
-            tell_resolved(answer, Resolved::Refused(lower_of(why, other)))
-        }
-    }
+    let found = match check_room(RESOLVED_SIZE, answer.len()) {
+        Ok(()) => rounds::show(words, responses, width, mark),
+        Err(why) => Err(lower_of(why, check_show(words, responses, width, mark))),
+    };
+    tell_resolved(answer, found)
 }
 
 // ---- answer
 
 const REPLY_SIZE: usize = 2;
 
-fn tell_reply(answer: &mut [u64], reply: Reply) -> u32
+fn tell_reply(answer: &mut [u64], reply: Result<(), Refusal>) -> u32
     ensures value { result ≡ (rounding.told reply).0 }
     ensures answer_after { answer.new ≡ tell_in (entries.reply_numbers (rounding.told reply)) answer.old }
 {
     match reply {
-        Reply::Taken => {
-            let numbers = [0, 0];
-            tell(answer, &numbers);
+        Ok(()) => {
+            tell(answer, &[0, 0]);
             0
         }
-        Reply::Refused(why) => {
-            let numbers = [machine::number_of(why), machine::also_of(why)];
-            tell(answer, &numbers);
+        Err(why) => {
+            tell(answer, &[machine::number_of(why), also_of(why)]);
             number_of(why)
         }
     }
@@ -77,6 +69,7 @@ fn verdict_of(verdict: u8) -> Verdict
 }
 
 #[unsafe(no_mangle)]
+#[tactic(auto, unfolding(crate::specs::Entries::answer_entry, crate::specs::Entries::answer_told, crate::specs::Entries::answer_left, rounds::specs::Round::reply_of, rounds::specs::Round::after_answer))]
 pub extern "C" fn dushvaneth_answer(
     words: &[u64],
     responses: &mut [Response],
@@ -94,50 +87,43 @@ pub extern "C" fn dushvaneth_answer(
     let mark = ResponseBit(x);
     let fault = ResponseBit(f);
     let at = WordSlice(word);
-    let own = check_room(REPLY_SIZE, answer.len());
-    match own {
-        Check::Passed => {
-            let reply = rounds::answer(
-                words,
-                responses,
-                width,
-                mark,
-                fault,
-                at,
-                verdict_of(verdict),
-            );
-            tell_reply(answer, reply)
-        }
-        Check::Refused(why) => {
-            let other = rounds::check_answer(words, responses, width, mark, fault, at);
-            tell_reply(answer, Reply::Refused(lower_of(why, other)))
-        }
-    }
+    let reply = match check_room(REPLY_SIZE, answer.len()) {
+        Ok(()) => rounds::answer(
+            words,
+            responses,
+            width,
+            mark,
+            fault,
+            at,
+            verdict_of(verdict),
+        ),
+        Err(why) => Err(lower_of(why, check_answer(words, responses, width, mark, fault, at))),
+    };
+    tell_reply(answer, reply)
 }
 
 // ---- a whole round
 
 const REPORT_SIZE: usize = 4;
 
-fn tell_report(answer: &mut [u64], report: Report) -> u32
+fn tell_report(answer: &mut [u64], report: Result<Report, Refusal>) -> u32
     ensures value { result ≡ (whole.told report).refusal }
     ensures answer_after { answer.new ≡ tell_in (entries.report_numbers (whole.told report)) answer.old }
 {
     match report {
-        Report::Ended { done, faulty } => {
-            let numbers = [0, 0, done as u64, faulty as u64];
-            tell(answer, &numbers);
+        Ok(Report { done, faulty }) => {
+            tell(answer, &[0, 0, done as u64, faulty as u64]);
             0
         }
-        Report::Refused(why) => {
-            let numbers = [machine::number_of(why), machine::also_of(why), 0, 0];
-            tell(answer, &numbers);
+        Err(why) => {
+            tell(answer, &[machine::number_of(why), also_of(why), 0, 0]);
             number_of(why)
         }
     }
 }
 
 #[unsafe(no_mangle)]
+#[tactic(auto, unfolding(crate::specs::Entries::round_entry, crate::specs::Entries::round_told, crate::specs::Entries::round_left, handout::specs::Whole::report_of, handout::specs::Whole::after_round))]
 pub extern "C" fn dushvaneth_round(
     words: &[u64],
     responses: &mut [Response],
@@ -153,15 +139,9 @@ pub extern "C" fn dushvaneth_round(
 {
     let mark = ResponseBit(x);
     let fault = ResponseBit(f);
-    let own = check_room(REPORT_SIZE, answer.len());
-    match own {
-        Check::Passed => {
-            let report = handout::round(words, responses, width, mark, fault, verdicts);
-            tell_report(answer, report)
-        }
-        Check::Refused(why) => {
-            let other = rounds::check_round(words, responses, width, mark, fault);
-            tell_report(answer, Report::Refused(lower_of(why, other)))
-        }
-    }
+    let report = match check_room(REPORT_SIZE, answer.len()) {
+        Ok(()) => handout::round(words, responses, width, mark, fault, verdicts),
+        Err(why) => Err(lower_of(why, check_round(words, responses, width, mark, fault))),
+    };
+    tell_report(answer, report)
 }

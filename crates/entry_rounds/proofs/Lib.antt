@@ -1,2 +1,0 @@
--- one law for each arm of the entry points
-pub mod Entries
