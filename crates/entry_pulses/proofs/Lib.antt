@@ -1,2 +1,2 @@
--- one law for each arm of the entry points
+-- what a panel as the code hands it on comes to, in each arm of the entry points
 pub mod Entries

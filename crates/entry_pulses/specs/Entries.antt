@@ -1,18 +1,14 @@
 -- The panel's load, both pulses, the explainer and resolution for callers in other languages: what is refused, told and left (house, but for the calls' own
 -- definitions; docs/DECISIONS.md, 'The library for C').
-use Rattle.std.specs.Prelude.{ℕ, not, List, [], ◌∷◌, length}
+use Rattle.std.specs.Prelude.{ℕ, not, List, [], ◌∷◌, Ok, Err}
 use Rattle.machine.specs.declared.Refusal.TheVariants.{PanelTooWide}
-use Rattle.machine.specs.declared.Check.{Check}
-use Rattle.machine.specs.declared.Answer.TheVariants as answer
 use Rattle.machine.specs.Machine.{Machine}
 use Rattle.machine.specs.Panel.{panel_of, load}
 use Rattle.machine.specs.Pulse.{count_of, read_of, pulsed}
 use Rattle.machine.specs.Resolution.{resolved}
-use Rattle.machine.specs.Refusals.{refuse, machine_check, pulse_check, answer_by, change_by, number_of, Told, told}
+use Rattle.machine.specs.Refusals.{Check, refuse, machine_check, pulse_check, answer_by, change_by, number_of, Told, told}
 use Rattle.panel.specs.Numbered.{takes}
-use Rattle.explainer.specs.declared.Explained.TheVariants as explains
 use Rattle.explainer.specs.Reasons as reasons
-use Rattle.resolver.specs.declared.Resolved.TheVariants as found
 use Rattle.resolver.specs.Answers as resolving
 use Rattle.entry_forms.specs.Numbers.{lower, panel_check, lines_of, lines_check, room_check, resolved_size}
 
@@ -21,8 +17,13 @@ use Rattle.entry_forms.specs.Numbers.{lower, panel_check, lines_of, lines_check,
 unfoldable pub load_check : List ℕ → ℕ → ℕ → Check
 load_check registers k v = lower (panel_check registers) (refuse PanelTooWide (not (takes k v)))
 
+-- a refusal's number, 0 for none
+abbrev pub number_in : Check → ℕ
+number_in (Ok tt) = 0
+number_in (Err r) = number_of r
+
 unfoldable pub load_number : List ℕ → ℕ → ℕ → ℕ
-load_number registers k v = answer_by (load_check registers k v) number_of 0
+load_number registers k v = number_in (load_check registers k v)
 
 unfoldable pub loaded : List ℕ → ℕ → ℕ → List ℕ
 loaded registers k v = change_by (load_check registers k v) (load k v (panel_of registers)) registers
@@ -47,7 +48,7 @@ unfoldable pub pulse_told : Machine → List ℕ → ℕ → ℕ → Told
 pulse_told m registers lines room =
     let p = panel_of registers in
     let l = lines_of lines in
-    told (answer_by (pulse_entry m registers lines room) answer.Refused (answer.Done (count_of m p l) (read_of m p l)))
+    told (answer_by (pulse_entry m registers lines room) (record { count = count_of m p l; read = read_of m p l }))
 
 unfoldable pub pulse_left : Machine → List ℕ → ℕ → ℕ → Machine
 pulse_left m registers lines room = change_by (pulse_entry m registers lines room) (pulsed m (panel_of registers) (lines_of lines)) m
@@ -69,10 +70,10 @@ explain_entry m registers word room = lower (explain_own registers room) (reason
 
 unfoldable pub explained_told : Machine → List ℕ → ℕ → ℕ → reasons.Told
 explained_told m registers word room =
-    reasons.told (answer_by (explain_entry m registers word room) explains.Refused (reasons.reason_at m (panel_of registers) (record { 0 = word })))
+    reasons.told (answer_by (explain_entry m registers word room) (reasons.reason_at m (panel_of registers) (record { 0 = word })))
 
 -- ---- resolution
 
 unfoldable pub resolved_told : ℕ → ℕ → Machine → ℕ → resolving.Told
 resolved_told key care m room =
-    resolving.told (answer_by (lower (room_check resolved_size room) (machine_check m)) found.Refused (resolving.as_resolved (resolved key care m)))
+    resolving.told (answer_by (lower (room_check resolved_size room) (machine_check m)) (resolved key care m))
