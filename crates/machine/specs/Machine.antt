@@ -1,5 +1,5 @@
 -- Document 01, 'The machine': the machine, its syllables, selection.
-use Rattle.std.specs.Prelude.{ℕ, zero, suc, ◌+◌, ◌-◌, Bool, true, false, ◌||◌, List, [], ◌∷◌, eqb, get_or}
+use Rattle.std.specs.Prelude.{ℕ, zero, suc, ◌+◌, ◌-◌, Bool, ◌||◌, List, [], ◌∷◌, eqb, get_or}
 use Rattle.laws.specs.Bits.{bit, number, every, pick}
 
 -- "n words, 1 to 1,024, each of N bits, 1 to 64. .. Each word has 8 response bits, numbered 0 to 7."

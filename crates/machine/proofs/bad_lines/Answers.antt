@@ -2,7 +2,6 @@
 use mathlib.Core.Path.{◌≡◌, refl, ◌∙◌}
 use mathlib.Core.Bool.{Bool, true, false}
 use mir.Val.{bool_byte}
-use borrow.Author.Rules.{rules}
 use Rattle.laws.specs.Bits.{digit}
 use Rattle.machine.specs.Refusals.{bad_lines}
 use Rattle.machine.proofs.bad_lines.Goals as goal

@@ -1,5 +1,4 @@
 use Rattle.machine.specs.Refusals.{bad_panel}
-use borrow.Author.Rules.{rules}
 use Rattle.machine.proofs.bad_panel.Goals as goal
 
 pub returns : goal.returns

@@ -1,8 +1,6 @@
 use mathlib.Core.Path.{ap, ◌∙◌}
-use mathlib.Core.Bool.{Bool}
 use Rattle.machine.specs.declared.Refusal.TheVariants.{BitsClash}
 use Rattle.machine.specs.Refusals.{refuse}
-use borrow.Author.Rules.{rules}
 use Rattle.machine.proofs.check_care.Goals as goal
 
 pub returns : goal.returns

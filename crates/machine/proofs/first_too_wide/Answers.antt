@@ -1,6 +1,5 @@
-use mathlib.Core.Path.{◌≡◌, sym, ◌∙◌}
+use mathlib.Core.Path.{sym, ◌∙◌}
 use borrow.Author.Rules.{rules}
-use Rattle.machine.specs.Resolution.{lowest}
 use Rattle.machine.specs.Refusals.{too_wide}
 use Rattle.machine.proofs.Refusals.{lowest_here, lowest_later, lowest_end}
 use Rattle.machine.proofs.first_too_wide.Goals as goal

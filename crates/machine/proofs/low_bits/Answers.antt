@@ -1,6 +1,5 @@
 -- All ones, shifted down.
 use Rattle.machine.proofs.Words.{lowest_ones}
-use borrow.Author.Rules.{rules}
 use Rattle.machine.proofs.low_bits.Goals as goal
 
 pub returns : goal.returns

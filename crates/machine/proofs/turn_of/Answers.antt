@@ -2,7 +2,6 @@
 use mathlib.Core.Path.{◌≡◌, sym, ap}
 use Rattle.machine.specs.declared.Refusal.{Refusal}
 use Rattle.machine.specs.Refusals.{number_of, turn}
-use borrow.Author.Rules.{rules}
 use Rattle.machine.proofs.turn_of.Goals as goal
 
 turns : {r why : Refusal} → why ≡ r → turn (number_of r) ≡ turn (number_of why)

@@ -1,5 +1,4 @@
 use mathlib.Core.Path.{sym, ◌∙◌}
-use borrow.Author.Rules.{rules}
 use Rattle.panel.proofs.Numbered as numbered
 use Rattle.panel.proofs.load.Goals as goal
 

@@ -1,7 +1,5 @@
 use mathlib.Core.Path.{sym, ◌∙◌, ap}
 use mathlib.Core.Bool.{not}
-use borrow.Author.Rules.{rules}
-use borrow.Author.Tests.{lt-ltb, le-ltb}
 use Rattle.panel.proofs.Numbered.{eight_bits}
 use Rattle.panel.proofs.takes.Goals as goal
 
