@@ -49,6 +49,9 @@ held f b at l h = go (ltb (length (drop at b)) f.size) refl h
     go true e g = absurd (let z : ◌≡◌ {A = ℕ} 0 1 = cc in omega arith)
     go false e g = record { fits = omega (arith, ltb-false (length (drop at b)) f.size e, length-drop at b); right = g }
 
+pub fits : (f : Field) (b : List ℕ) (at : ℕ) → at ≤ length b → holds f (drop at b) ≡ true → at + f.size ≤ length b
+fits f b at l h = (held f b at l h).fits
+
 pub field_wrong : (f : Field) (fs : List Field) (b : List ℕ) (at : ℕ) → holds f (drop at b) ≡ false → scan (f ∷ fs) at (drop at b) ≡ Err at
 unfolding holds scan
 field_wrong f fs b at h = go (ltb (length (drop at b)) f.size) (f.right (take f.size (drop at b))) h
@@ -227,33 +230,41 @@ module _ (b : List ℕ) (h : holds (count_is 1) b ≡ true) where
   unfolding scanned fields_of
   head_words g f = sym (field_right (count_is 1) _ b width_at h ∙ field_right width_byte _ b (items_at width_at) g ∙ field_wrong word_count _ b words_at f)
 
-pub record Head (b : List ℕ) : Type 0 where
-  pub fits : items_at words_at ≤ length b
-  pub few : words_in b ≤ 1024
-  pub past : scanned b ≡ scan (replicate (words_in b) (word_field (width_in b)) ++ after_words (width_in b) (words_in b) b) (items_at words_at) (drop (items_at words_at) b)
+-- so they fit, and there are not too many words
 
-pub head : (b : List ℕ) → holds (count_is 1) b ≡ true → holds width_byte (drop (items_at width_at) b) ≡ true → holds word_count (drop words_at b) ≡ true → Head b
+pub first_fits : (b : List ℕ) → holds (count_is 1) b ≡ true → items_at width_at ≤ length b
+first_fits b h = fits (count_is 1) b width_at (omega arith) h
+
+pub second_fits : (b : List ℕ) → items_at width_at ≤ length b → holds width_byte (drop (items_at width_at) b) ≡ true → words_at ≤ length b
+second_fits b l h = fits width_byte b (items_at width_at) l h
+
+pub third_fits : (b : List ℕ) → words_at ≤ length b → holds word_count (drop words_at b) ≡ true → items_at words_at ≤ length b
+third_fits b l h = fits word_count b words_at l h
+
+pub few_words : (b : List ℕ) → words_at ≤ length b → holds word_count (drop words_at b) ≡ true → words_in b ≤ 1024
+few_words b l h = leb-true (words_in b) 1024 (and_right (leb 1 (words_in b)) (leb (words_in b) 1024) (held word_count b words_at l h).right)
+
+-- what is left are the words, and what comes after them
+pub head : (b : List ℕ) → holds (count_is 1) b ≡ true → holds width_byte (drop (items_at width_at) b) ≡ true → holds word_count (drop words_at b) ≡ true
+    → scanned b ≡ scan (replicate (words_in b) (word_field (width_in b)) ++ after_words (width_in b) (words_in b) b) (items_at words_at) (drop (items_at words_at) b)
 unfolding scanned fields_of
-head b h g f =
-    let l : items_at width_at ≤ length b = (held (count_is 1) b width_at (omega arith) h).fits in
-    let m : words_at ≤ length b = (held width_byte b (items_at width_at) l g).fits in
-    let k = held word_count b words_at m f in
-    record {
-      fits = k.fits;
-      few = leb-true (words_in b) 1024 (and_right (leb 1 (words_in b)) (leb (words_in b) 1024) k.right);
-      past = field_right (count_is 1) _ b width_at h ∙ field_right width_byte _ b (items_at width_at) g ∙ field_right word_count _ b words_at f;
-    }
+head b h g f = field_right (count_is 1) _ b width_at h ∙ field_right width_byte _ b (items_at width_at) g ∙ field_right word_count _ b words_at f
 
 -- the words, by what looking at them found
-module _ (b : List ℕ) (w n : ℕ) (r : Scanned) (t : Head b) (v : w ≡ width_in b) (e : n ≡ words_in b)
+module _ (b : List ℕ) (w n : ℕ) (r : Scanned)
+    (t : scanned b ≡ scan (replicate (words_in b) (word_field (width_in b)) ++ after_words (width_in b) (words_in b) b) (items_at words_at) (drop (items_at words_at) b))
+    (v : w ≡ width_in b) (e : n ≡ words_in b)
     (h : (fs : List Field) → scan (replicate n (word_field w) ++ fs) (items_at words_at) (drop (items_at words_at) b) ≡ onward r (scan fs (responses_at n) (drop (responses_at n) b))) where
   pub words_broken : (at : ℕ) → r ≡ Err at → Err at ≡ scanned b
   words_broken at g =
       let f = rw (e, v) at (h (after_words w n b)) in
-      sym (t.past ∙ f ∙ rw g)
+      sym (t ∙ f ∙ rw g)
 
   pub words_sound : (q : Scanned) → r ≡ Ok tt → q ≡ scan (after_words w n b) (responses_at n) (drop (responses_at n) b) → q ≡ scanned b
   words_sound q g i =
       let f = rw (e, v) at (h (after_words w n b)) in
       let j = rw (e, v) at i in
-      sym (t.past ∙ f ∙ rw g (sym j))
+      sym (t ∙ f ∙ rw g (sym j))
+
+-- what the check cites where a field is judged
+pub ruleset judged = (handed, fits, first_fits, second_fits, third_fits, few_words, field_wrong, head_count, head_width, head_words)

@@ -165,6 +165,7 @@ fn scan_end(image: &[u8], at: usize) -> Result<(), usize>
     if at < image.len() { Err(at) } else { Ok(()) }
 }
 
+#[tactic(auto, using(crate::proofs::Parts::judged))]
 fn scan_job(image: &[u8], at: usize, width: u32) -> Result<(), usize>
     requires { at ≤ length image.now }
     ensures { result ≡ scan (job_fields width at image.now) at (drop at image.now) }
@@ -179,6 +180,7 @@ fn scan_job(image: &[u8], at: usize, width: u32) -> Result<(), usize>
 }
 
 // Any bytes are a response: only their count and their end can be wrong.
+#[tactic(auto, using(crate::proofs::Parts::judged))]
 fn scan_responses(image: &[u8], width: u32, n: usize) -> Result<(), usize>
     requires { (responses_at n ≤ length image.now) × (n ≤ 1024) }
     ensures { result ≡ scan (after_words width n image.now) (responses_at n) (drop (responses_at n) image.now) }
@@ -193,6 +195,7 @@ fn scan_responses(image: &[u8], width: u32, n: usize) -> Result<(), usize>
     scan_job(image, image_layout::jobs_at(n), width)
 }
 
+#[tactic(auto, using(crate::proofs::Parts::judged))]
 fn scan_words(image: &[u8], width: u32, n: usize) -> Result<(), usize>
     requires { (items_at words_at ≤ length image.now) × (n ≤ 1024) }
     ensures { ((fs : List Field) → scan (replicate n (word_field width) ++ fs) (items_at words_at) (drop (items_at words_at) image.now) ≡ onward result (scan fs (responses_at n) (drop (responses_at n) image.now))) × (result ≡ Ok tt → responses_at n ≤ length image.now) }
@@ -204,6 +207,7 @@ fn scan_words(image: &[u8], width: u32, n: usize) -> Result<(), usize>
     Ok(())
 }
 
+#[tactic(auto, using(crate::proofs::Parts::judged))]
 pub fn scan_image(image: &[u8]) -> Result<(), usize>
     ensures { result ≡ scanned image.now }
 {

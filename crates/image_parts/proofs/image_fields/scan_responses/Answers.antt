@@ -1,29 +1,14 @@
 use Prim.Native.Nat.{ℕ, ◌*◌, ◌-◌, ◌%◌, ◌≤◌, ◌<◌}
 use mathlib.Core.Path.{◌≡◌, sym, ap, ◌∙◌}
-use mathlib.Core.Bool.{true, false}
+use mathlib.Core.Bool.{true}
 use native.Mathlib.Omega.{arith}
 use lib.ListN.{length, drop}
 use borrow.Author.Tests.{leb-true, leb-false}
 use Rattle.image_layout.specs.Sizes.{response_size, items_at, responses_at}
 use Rattle.image_layout.specs.Reading.{scan, count_is}
 use Rattle.image_parts.specs.Parts.{holds, job_fields}
-use Rattle.image_parts.proofs.Parts.{handed, held, field_wrong, after_cut, after_right}
+use Rattle.image_parts.proofs.Parts.{handed, held, after_cut, after_right}
 use Rattle.image_parts.proofs.image_fields.scan_responses.Goals as goal
-
-pub returns-in_err-judge : goal.returns-in_err-judge
-returns-in_err-judge c =
-    let a = c.args in
-    let e : c.responses_at-at.result ≡ responses_at a.n = c.responses_at-at.ensures in
-    let h : holds (count_is a.n) (drop (responses_at a.n) a.image.now) ≡ false = rw e at (sym c.count_is.ensures ∙ c.in_err-judge.ensures.0) in
-    handed _ _ _ c.from_residual.ensures.1 (c.in_err-judge.ensures.1 ∙ e) ∙ sym (field_wrong (count_is a.n) _ a.image.now (responses_at a.n) h)
-
-pub overflow_sub-left : goal.overflow_sub-left
-overflow_sub-left c =
-    let a = c.args in
-    let e : c.responses_at-at.result ≡ responses_at a.n = c.responses_at-at.ensures in
-    let h : holds (count_is a.n) (drop (responses_at a.n) a.image.now) ≡ true = rw e at (sym c.count_is.ensures ∙ c.in_ok-judge.ensures) in
-    let f : items_at (responses_at a.n) ≤ length a.image.now = (held (count_is a.n) a.image.now (responses_at a.n) c.requires.0 h).fits in
-    omega (arith, e, f)
 
 pub returns-in_err-judge-2 : goal.returns-in_err-judge-2
 returns-in_err-judge-2 c =
@@ -35,14 +20,6 @@ returns-in_err-judge-2 c =
     let p : length a.image.now - (length a.image.now - items_at c.responses_at-at.result) % response_size
     ≡ length a.image.now - (length a.image.now - items_at (responses_at a.n)) % response_size = rw e in
     handed _ _ _ c.from_residual-in_err-judge-2.ensures.1 (c.in_err-judge-2.ensures.1 ∙ p) ∙ sym (after_cut a.width a.n a.image.now h c.requires.0 l)
-
-pub scan_job-requires : goal.scan_job-requires
-scan_job-requires c =
-    let a = c.args in
-    let e : c.responses_at-at.result ≡ responses_at a.n = c.responses_at-at.ensures in
-    let h : holds (count_is a.n) (drop (responses_at a.n) a.image.now) ≡ true = rw e at (sym c.count_is.ensures ∙ c.in_ok-judge.ensures) in
-    let f : items_at (responses_at a.n) ≤ length a.image.now = (held (count_is a.n) a.image.now (responses_at a.n) c.requires.0 h).fits in
-    omega (arith, e, f, (leb-true _ _ c.in_ok-judge-2.ensures), c.jobs_at.ensures)
 
 pub returns : goal.returns
 returns c =
