@@ -29,6 +29,7 @@ pub data Kind : Type 0 where
 unfoldable pub kind_of : ℕ → Kind
 kind_of k = pick (eqb k 1) greatest (pick (eqb k 2) smallest (pick (eqb k 3) scaledAdd (pick (eqb k 4) product unknown)))
 
+-- the same four, as the code names them
 abbrev pub named : Known → Kind
 named Greatest = greatest
 named Smallest = smallest
