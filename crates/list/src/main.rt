@@ -20,6 +20,7 @@ fn read_full<R: Read>(source: &mut R, bytes: &mut [u8]) -> usize
     ensures { result ≤ length bytes.new }
 {
     let mut got: usize = 0;
+    // a turn goes on behind what was read, and not by one, so no range counts the turns
     while got < bytes.len() {
         let more = source.read(&mut bytes[got..]).unwrap_or(0);
         if more == 0 {

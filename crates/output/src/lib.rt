@@ -67,7 +67,8 @@ fn put_hex(out: &mut [u8], at: usize, x: u64, digits: u32) -> usize
     n
 }
 
-// ---- a name and what follows it
+// ---- a name and what follows it: three functions of two calls each, for one that takes what follows would first have to be told
+// whether that is a number in decimal or how many hex digits
 
 // A name and a number in decimal.
 pub fn put_named(out: &mut [u8], at: usize, name: &[u8], x: u64) -> usize

@@ -22,6 +22,7 @@ pub fn read_one(letter: u8, word: &[u8]) -> Option<u64>
     }
 }
 
+// By an index, since nothing is known of an array's elements after its `get_mut`.
 fn keep(values: &mut [u64; 16], i: usize, x: u64)
     ensures { i < 16 → values.new ≡ set values.old i x }
 {

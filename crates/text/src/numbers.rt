@@ -85,6 +85,7 @@ pub fn bytes(s: &[u8], out: &mut [u8]) -> Option<u64>
 {
     let mut i: usize = 0;
     let mut n: usize = 0;
+    // two at a time by a count, since a proof does not learn the length of a slice that shrinks from turn to turn
     while i < s.len() {
         if s.len() - i < 2 {
             return None;

@@ -33,7 +33,8 @@ fn inside(line: &[u8], at: usize) -> usize
     at.min(line.len())
 }
 
-// The next word at or after `at`; an empty one at the line's end where there is none.
+// The next word at or after `at`; an empty one at the line's end where there is none. It is a place and no slice, since the promises of
+// the consoles speak of the place behind a word (`word_at`).
 #[tactic(auto, unfolding(crate::specs::Words::word_at))]
 pub fn next(line: &[u8], at: usize) -> Place
     ensures value { result ≡ word_at line.now at }
@@ -59,6 +60,7 @@ pub fn which(names: &[u8], word: &[u8]) -> usize
 {
     let mut number: usize = 0;
     let mut at: usize = 0;
+    // a turn goes on behind a word, and not by one, so no range counts the turns
     while at < names.len() {
         let name = next(names, at);
         if name.from == name.to {
