@@ -1,6 +1,6 @@
 // The words of a line: they "stand apart by one or more spaces, and by nothing else".
 ghost use Rattle.std.specs.Prelude.{◌≡◌, ◌≤◌, eqb, length};
-ghost use Rattle.text.specs.Words.{is_space, end_of, within, word_at, words_of, place_of};
+ghost use Rattle.text.specs.Words.{is_space, end_of, word_at, words_of, place_of};
 
 use crate::Place;
 
@@ -26,13 +26,6 @@ fn run_end(line: &[u8], at: usize, spaces: bool) -> usize
     line.len()
 }
 
-// A place of the line, or its end where that is before it.
-fn inside(line: &[u8], at: usize) -> usize
-    ensures { (result ≡ within line.now at) × (result ≤ length line.now) × (at ≤ length line.now → result ≡ at) }
-{
-    at.min(line.len())
-}
-
 // The next word at or after `at`; an empty one at the line's end where there is none. It is a place and no slice, since the promises of
 // the consoles speak of the place behind a word (`word_at`).
 #[tactic(auto, unfolding(crate::specs::Words::word_at))]
@@ -40,8 +33,8 @@ pub fn next(line: &[u8], at: usize) -> Place
     ensures value { result ≡ word_at line.now at }
     ensures from_le_to { (result.from ≤ result.to) × ((result.to ≤ length line.now) × (at ≤ length line.now → at ≤ result.from)) }
 {
-    let start = inside(line, at);
-    let from = run_end(line, start, true);
+    // past its end a line has nothing
+    let from = run_end(line, at.min(line.len()), true);
     let to = run_end(line, from, false);
     Place { from, to }
 }
