@@ -1,46 +1,21 @@
 -- The parts of an answer that depend on a case, and a word's line.
-use Prim.Native.Nat.{ℕ, ◌<◌, ◌≤◌}
-use mathlib.Core.Path.{◌≡◌, refl}
-use mathlib.Core.List.{List, [], ◌++◌, append_assoc}
-use borrow.Author.Tests.{lt-ltb, le-ltb}
-use lib.ListN.{length, get_or}
-use Rattle.machine.specs.declared.WordSlice.{WordSlice}
+use Prim.Native.Nat.{ℕ}
+use mathlib.Core.Path.{◌≡◌}
+use mathlib.Core.List.{List, ◌++◌, append_assoc}
 use Rattle.array.specs.declared.Refusal.{Refusal}
-use Rattle.array.specs.declared.Refusal.TheVariants as refusal
 use Rattle.array.specs.Refusals.{number_of}
 use Rattle.output.specs.Puts.{Puts}
 use Rattle.output.proofs.Puts.{puts₂, puts₄}
 use Rattle.listing.specs.Lists.{named}
-use Rattle.array_replies.specs.Texts.{refusal_text, also_text, entry_text, word_text}
+use Rattle.array_replies.specs.Texts.{refusal_text, also_text}
 
 -- ---- a refusal
-
-pub no_more : (why : Refusal) → ((word : WordSlice) → why ≡ refusal.WordTooWide word → ⊥) → also_text why ≡ []
-no_more refusal.Size f = refl
-no_more refusal.Width f = refl
-no_more (refusal.WordTooWide word) f = absurd (f word refl)
-no_more refusal.NoCell f = refl
-no_more refusal.RegisterTooWide f = refl
 
 pub refused : {o₁ o₂ : List ℕ} {n₁ n₂ : ℕ} (why : Refusal) (k : ℕ) (also out : List ℕ) → k ≡ number_of why → also_text why ≡ also →
     Puts (named "refused " k) 0 out o₁ n₁ → Puts also n₁ o₁ o₂ n₂ → Puts (refusal_text why) 0 out o₂ n₂
 refused why k also out e f p q = puts₂ (named "refused " (number_of why)) (also_text why) 0 out (rw e at p) (rw (← f) at q)
 
--- ---- a word of the list, which the buffers hold or not
-
-module _ (i : ℕ) (ones xs selectors : List ℕ) where
-  pub entry_held : i < length ones → i < length xs → i < length selectors →
-      entry_text i ones xs selectors ≡ word_text i (get_or ones i 0) (get_or xs i 0) (get_or selectors i 0)
-  entry_held f g h = rw (lt-ltb i (length ones) f, lt-ltb i (length xs) g, lt-ltb i (length selectors) h)
-
-  pub no_selectors : i < length ones → i < length xs → length selectors ≤ i → entry_text i ones xs selectors ≡ []
-  no_selectors f g h = rw (lt-ltb i (length ones) f, lt-ltb i (length xs) g, le-ltb i (length selectors) h)
-
-  pub no_x : i < length ones → length xs ≤ i → entry_text i ones xs selectors ≡ []
-  no_x f g = rw (lt-ltb i (length ones) f, le-ltb i (length xs) g)
-
-  pub no_one : length ones ≤ i → entry_text i ones xs selectors ≡ []
-  no_one f = rw (le-ltb i (length ones) f)
+-- ---- a word's line
 
 regroup : (a s f g h : List ℕ) → a ++ s ++ f ++ s ++ g ++ s ++ h ≡ a ++ (s ++ f) ++ (s ++ g) ++ (s ++ h)
 regroup a s f g h = simp append_assoc

@@ -55,25 +55,18 @@ fn put_entry(
 ) -> usize
     ensures { Puts (texts.entry_text i ones.now xs.now selectors.now) at out.old out.new result }
 {
-    if i < ones.len() {
-        if i < xs.len() {
-            if i < selectors.len() {
-                return put_line(out, at, i, ones[i], xs[i], selectors[i]);
-            }
-        }
+    match (ones.get(i), xs.get(i), selectors.get(i)) {
+        (Some(one), Some(x), Some(byte)) => put_line(out, at, i, *one, *x, *byte),
+        _ => at,
     }
-    at
 }
 
 fn put_list(out: &mut [u8], rack: Rack, ones: &[u64], xs: &[u64], selectors: &[u8]) -> usize
     ensures { Puts (texts.list_text rack ones.now xs.now selectors.now) 0 out.old out.new result }
 {
     let mut end = put_head(out, rack);
-    let n = rack.words;
-    let mut i: usize = 0;
-    while i < n {
+    for i in 0..rack.words {
         end = put_entry(out, end, i, ones, xs, selectors);
-        i += 1;
     }
     end
 }

@@ -1,7 +1,6 @@
 use mathlib.Core.List.{[], ◌∷◌}
 use Rattle.output.proofs.Puts.{puts₂, byte_put}
 use Rattle.array_replies.specs.Texts.{printed}
-use borrow.Author.Rules.{rules}
 use Rattle.array_replies.proofs.put.Goals as goal
 
 pub returns : goal.returns

@@ -1,6 +1,5 @@
 use Rattle.listing.specs.Lists.{named, named16}
 use Rattle.output.proofs.Puts.{puts₅}
-use borrow.Author.Rules.{rules}
 use Rattle.array_replies.proofs.put_head.Goals as goal
 
 pub returns : goal.returns

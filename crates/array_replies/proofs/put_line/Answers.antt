@@ -2,7 +2,6 @@ use Rattle.text.specs.Ascii.{ascii}
 use Rattle.output.specs.Digits.{pair, hex_digits}
 use Rattle.listing.specs.Lists.{named}
 use Rattle.array_replies.proofs.Answers.{spaced}
-use borrow.Author.Rules.{rules}
 use Rattle.array_replies.proofs.put_line.Goals as goal
 
 pub returns : goal.returns
