@@ -11,8 +11,7 @@ use lib.Dec.{eqb, leb, leb-zero}
 use lib.ListN.{length, take, drop}
 use lib.Seq.{sets, sets-eq, length-sets, take_all, take-nil, take_at}
 use Rattle.laws.specs.Bits.{pick}
-use Rattle.text.specs.declared.Number.{Number}
-use Rattle.text.specs.declared.Number.TheVariants.{Is, Bad}
+use Rattle.std.specs.Prelude.{Option, Some, None}
 use Rattle.text.specs.declared.Place.{Place}
 use Rattle.text.specs.Numbers.{paired, pairs, bytes_of}
 use Rattle.text.specs.Words.{word_at, words_of}
@@ -23,16 +22,16 @@ no_pairs : pairs [] ≡ []
 unfolding pairs
 no_pairs = refl
 
-no_bytes : (room : ℕ) → bytes_of room [] ≡ Is 0
+no_bytes : (room : ℕ) → bytes_of room [] ≡ Some 0
 unfolding paired pairs
 no_bytes room = rw leb-zero
 
-never : (n : ℕ) → Is n ≡ Bad → ⊥
+never : (n : ℕ) → Some n ≡ None → ⊥
 never n e = let z : ◌≡◌ {A = ℕ} 0 1 = cc in omega arith
 
 -- ---- from the line
 
-abbrev pub Kept : List (List ℕ) → List ℕ → Number → List ℕ → Type 0
+abbrev pub Kept : List (List ℕ) → List ℕ → Option ℕ → List ℕ → Type 0
 Kept args bytes found left = (found ≡ image_length args (length bytes)) × (left ≡ kept args bytes)
 
 module _ (line : List ℕ) (at : ℕ) (inside : at ≤ length line) (p : Place) (is : p ≡ word_at line at) (within : p.to ≤ length line)
@@ -52,7 +51,7 @@ module _ (line : List ℕ) (at : ℕ) (inside : at ≤ length line) (p : Place) 
   over : not none ≡ false → words_of (drop p.to line) ≡ []
   over e = here_none line p.to next refl within (eqb-true next.from next.to (sym told ∙ not-false none e))
 
-  pub two_words : not none ≡ true → Kept (words_of (drop at line)) bytes Bad bytes
+  pub two_words : not none ≡ true → Kept (words_of (drop at line)) bytes None bytes
   two_words e =
       let k = here_one line p.to next refl within (more e) in
       ⊎_elim (λ (f : p.from ≡ p.to).
@@ -62,7 +61,7 @@ module _ (line : List ℕ) (at : ℕ) (inside : at ≤ length line) (p : Place) 
       (λ (h : p.from < p.to). let g = rw k at (here_one line at p is inside h) in (rw g, rw g))
       (eq-or-lt_of_le (here_ordered line at p is inside))
 
-  pub one_word : not none ≡ false → (found : Number) → found ≡ bytes_of (length bytes) word →
+  pub one_word : not none ≡ false → (found : Option ℕ) → found ≡ bytes_of (length bytes) word →
       (left : List ℕ) → left ≡ sets bytes 0 (take (length bytes) (pairs word)) → Kept (words_of (drop at line)) bytes found left
   one_word e found f left g =
       ⊎_elim (λ (h : p.from ≡ p.to).
@@ -74,7 +73,7 @@ module _ (line : List ℕ) (at : ℕ) (inside : at ≤ length line) (p : Place) 
 
 -- ---- in the room
 
-is_told : (t : Bool) (x k : ℕ) → Is k ≡ pick t (Is x) Bad → (t ≡ true) × (k ≡ x)
+is_told : (t : Bool) (x k : ℕ) → Some k ≡ pick t (Some x) None → (t ≡ true) × (k ≡ x)
 is_told true x k e = (refl, cc)
 is_told false x k e = absurd (never k e)
 
@@ -89,7 +88,7 @@ Holds args k left = (k ≤ length left) × (take k left ≡ pairs (digits args))
 put_holds : (vs bytes : List ℕ) → length vs ≤ length bytes → take (length vs) (sets bytes 0 vs) ≡ vs
 put_holds vs bytes h = rw (sets-eq vs bytes 0 (omega arith)) (take_at vs (drop (0 + length vs) bytes) (length vs) refl)
 
-holds : (args : List (List ℕ)) (bytes : List ℕ) (k : ℕ) → Is k ≡ image_length args (length bytes) → Holds args k (kept args bytes)
+holds : (args : List (List ℕ)) (bytes : List ℕ) (k : ℕ) → Some k ≡ image_length args (length bytes) → Holds args k (kept args bytes)
 holds [] bytes k e = let f : k ≡ 0 = cc in (omega arith, rw (f, no_pairs))
 holds (word ∷ []) bytes k e =
     let f = is_told (paired word && leb (length (pairs word)) (length bytes)) (length (pairs word)) k e in
@@ -97,6 +96,6 @@ holds (word ∷ []) bytes k e =
     (rw (length-sets, f.1) h, rw (f.1, take_all (length bytes) (pairs word) h) (put_holds (pairs word) bytes h))
 holds (word ∷ (next ∷ more)) bytes k e = absurd (never k e)
 
-pub image_holds : (args : List (List ℕ)) (bytes : List ℕ) (found : Number) → found ≡ image_length args (length bytes) → (left : List ℕ) → left ≡ kept args bytes →
-    (k : ℕ) → found ≡ Is k → Holds args k left
+pub image_holds : (args : List (List ℕ)) (bytes : List ℕ) (found : Option ℕ) → found ≡ image_length args (length bytes) → (left : List ℕ) → left ≡ kept args bytes →
+    (k : ℕ) → found ≡ Some k → Holds args k left
 image_holds args bytes found is left put k e = rw put (holds args bytes k (sym e ∙ is))

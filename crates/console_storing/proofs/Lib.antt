@@ -1,5 +1,3 @@
--- the image written
-pub mod Writing
 -- the image's digits
 pub mod Digits
 -- the image read

@@ -1,16 +1,12 @@
 -- What the commands store, list, room, resume and fit do, in the words of docs/BOARD.md, on the board's machine and the job it holds
 -- (`state`). `args` are the words after the command's name, `bytes` the room that the console lends for an image.
-use Rattle.std.specs.Prelude.{ℕ, Bool, ◌&&◌, List, [], ◌∷◌, ◌++◌, leb, length, take, drop}
+use Rattle.std.specs.Prelude.{ℕ, Bool, ◌&&◌, List, [], ◌∷◌, ◌++◌, Option, Some, None, Result, Ok, Err, leb, length, take, drop}
 use Rattle.std.proofs.lemmas.List.Edits.{sets}
 use Rattle.laws.specs.Bits.{pick}
 use Rattle.jobs.specs.Runs.{State}
-use Rattle.image.specs.declared.Wrote.{Wrote}
-use Rattle.image.specs.declared.Wrote.TheVariants as wrote
-use Rattle.image.specs.declared.Read.{Read}
-use Rattle.image.specs.declared.Read.TheVariants as read
+use Rattle.machine.specs.declared.Refusal.{Refusal}
+use Rattle.image.specs.declared.Loaded.{Loaded}
 use Rattle.image.specs.Calls.{write_of, written, read_of, words_read, responses_read}
-use Rattle.text.specs.declared.Number.{Number}
-use Rattle.text.specs.declared.Number.TheVariants.{Is, Bad}
 use Rattle.text.specs.Numbers.{letter_of, pairs, bytes_of}
 use Rattle.text.specs.Rows.{fits, values, number_at}
 use Rattle.console_commands.specs.declared.Board.{Board}
@@ -22,9 +18,9 @@ use Rattle.console_commands.specs.Ends.{bad_line, fine, refused}
 -- ---- written
 
 -- what is printed of an image of n bytes that was written, or the refusal
-abbrev pub wrote_or : (ℕ → Outcome) → Wrote → Outcome
-wrote_or say (wrote.Length n) = say n
-wrote_or say (wrote.Refused why) = outcome.Refused why
+abbrev pub wrote_or : (ℕ → Outcome) → Result ℕ Refusal → Outcome
+wrote_or say (Ok n) = say n
+wrote_or say (Err why) = outcome.Refused why
 
 -- "store: writes the image", "all its bytes"; "list: what the program `list` prints of the machine's image"
 abbrev pub store_outcome : List (List ℕ) → State → ℕ → Outcome
@@ -57,10 +53,10 @@ abbrev pub digits : List (List ℕ) → List ℕ
 digits [] = []
 digits (word ∷ more) = word
 
-abbrev pub image_length : List (List ℕ) → ℕ → Number
-image_length [] room = Is 0
+abbrev pub image_length : List (List ℕ) → ℕ → Option ℕ
+image_length [] room = Some 0
 image_length (word ∷ []) room = bytes_of room word
-image_length (word ∷ (next ∷ more)) room = Bad
+image_length (word ∷ (next ∷ more)) room = None
 
 -- where they are kept: as many as there is room for, of the pairs that are some
 abbrev pub kept : List (List ℕ) → List ℕ → List ℕ
@@ -69,50 +65,50 @@ kept (word ∷ []) bytes = sets bytes 0 (take (length bytes) (pairs word))
 kept (word ∷ (next ∷ more)) bytes = bytes
 
 -- "the machine is then the one read, the panel stays"
-abbrev pub taken : Board → Read → Turn
-taken b (read.Machine width n held) = fine (record { width = width; words = n; responses = n; panel = b.panel; held = held })
-taken b (read.Refused why) = refused b why
+abbrev pub taken : Board → Result Loaded Refusal → Turn
+taken b (Ok m) = fine (record { width = m.width; words = m.words; responses = m.words; panel = b.panel; held = m.held })
+taken b (Err why) = refused b why
 
 -- destinations of w words and r responses, which the console's buffers have
 abbrev pub have : ℕ → ℕ → List ℕ → List ℕ → Bool
 have w r words responses = leb w (length words) && leb r (length responses)
 
 -- the line's image read into such destinations, the first w and r entries of the console's buffers
-abbrev pub read_turn : Board → Number → List ℕ → Bool → ℕ → ℕ → Turn
-read_turn b (Is n) image fit w r = pick fit (taken b (read_of image w r)) (bad_line b)
-read_turn b Bad image fit w r = bad_line b
+abbrev pub read_turn : Board → Option ℕ → List ℕ → Bool → ℕ → ℕ → Turn
+read_turn b (Some n) image fit w r = pick fit (taken b (read_of image w r)) (bad_line b)
+read_turn b None image fit w r = bad_line b
 
-abbrev pub read_words : Number → List ℕ → Bool → ℕ → ℕ → List ℕ → List ℕ → List ℕ
-read_words (Is n) image fit w r words responses =
+abbrev pub read_words : Option ℕ → List ℕ → Bool → ℕ → ℕ → List ℕ → List ℕ → List ℕ
+read_words (Some n) image fit w r words responses =
     pick fit (words_read image (take w words) (take r responses) ++ drop w words) words
-read_words Bad image fit w r words responses = words
+read_words None image fit w r words responses = words
 
-abbrev pub read_responses : Number → List ℕ → Bool → ℕ → ℕ → List ℕ → List ℕ → List ℕ
-read_responses (Is n) image fit w r words responses =
+abbrev pub read_responses : Option ℕ → List ℕ → Bool → ℕ → ℕ → List ℕ → List ℕ → List ℕ
+read_responses (Some n) image fit w r words responses =
     pick fit (responses_read image (take w words) (take r responses) ++ drop r responses) responses
-read_responses Bad image fit w r words responses = responses
+read_responses None image fit w r words responses = responses
 
 -- what a reading command is: its two lengths, bad where the line's are, and the words of the image
 pub record Reading : Type 0 where
-  pub words : Number
-  pub responses : Number
+  pub words : Option ℕ
+  pub responses : Option ℕ
   pub image : List (List ℕ)
 
 -- "resume HEX..: into the machine's own buffers, made 1024 long for it"
 abbrev pub resuming : List (List ℕ) → Reading
-resuming args = record { words = Is 1024; responses = Is 1024; image = args }
+resuming args = record { words = Some 1024; responses = Some 1024; image = args }
 
 -- "fit W R HEX..: the same into destinations of W words and R responses (0 to 2048 each)"
 abbrev pub fitting : List (List ℕ) → Reading
-fitting [] = record { words = Bad; responses = Bad; image = [] }
-fitting (w ∷ []) = record { words = Bad; responses = Bad; image = [] }
+fitting [] = record { words = None; responses = None; image = [] }
+fitting (w ∷ []) = record { words = None; responses = None; image = [] }
 fitting (w ∷ (r ∷ image)) = record { words = letter_of 110 w; responses = letter_of 110 r; image = image }
 
 -- the numbers of a reading, and a bad line where one is bad
-abbrev pub both : {A : Type 0} → Number → Number → (ℕ → ℕ → A) → A → A
-both (Is w) (Is r) good bad = good w r
-both (Is w) Bad good bad = bad
-both Bad r good bad = bad
+abbrev pub both : {A : Type 0} → Option ℕ → Option ℕ → (ℕ → ℕ → A) → A → A
+both (Some w) (Some r) good bad = good w r
+both (Some w) None good bad = bad
+both None r good bad = bad
 
 abbrev pub reading_turn : Board → Reading → List ℕ → List ℕ → ℕ → Turn
 reading_turn b q words responses room =

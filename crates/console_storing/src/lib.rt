@@ -2,65 +2,36 @@
 // docs/BOARD.md has the language.
 #![tactic(auto)]
 
-ghost use Rattle.std.specs.Prelude.{◌≡◌, ◌≤◌, length, take, drop};
+ghost use Rattle.std.specs.Prelude.{◌≡◌, ◌≤◌, length, take, drop, Option, Some};
+ghost use Rattle.laws.specs.Bits.{pick};
 ghost use Rattle.jobs.specs.Runs.{state};
-ghost use Rattle.image.specs.Calls.{write_of, written};
 ghost use Rattle.text.specs.Words.{words_of};
 ghost use Rattle.console_storing.specs.Images as images;
 
 use console_commands::{Board, Outcome, Turn, bad_line, fine, refused};
-use image::{Read, Wrote};
-use machine::Response;
-use text::{Number, arguments, numbers};
+use image::Loaded;
+use machine::{Refusal, Response};
+use text::{arguments, numbers};
 
-// The machine's image, from the start of `bytes`.
-fn write(board: Board, words: &[u64], responses: &[Response], bytes: &mut [u8]) -> Wrote
-    ensures value { result ≡ write_of (state board.width words.now responses.now board.held) (length bytes.old) }
-    ensures bytes_after { bytes.new ≡ written (state board.width words.now responses.now board.held) bytes.old }
-{
-    let held = board.held;
-    image::writing::write(words, responses, board.width, held, bytes)
-}
-
-// store
+// store, and list, which writes the same image.
 pub fn store(
     board: Board,
     rest: &[u8],
     words: &[u64],
     responses: &[Response],
     bytes: &mut [u8],
+    listed: bool,
 ) -> Outcome
-    ensures value { result ≡ images.store_outcome (words_of rest.now) (state board.width words.now responses.now board.held) (length bytes.old) }
+    ensures value { let s = state board.width words.now responses.now board.held in result ≡ pick listed (images.list_outcome (words_of rest.now) s (length bytes.old)) (images.store_outcome (words_of rest.now) s (length bytes.old)) }
     ensures bytes_after { bytes.new ≡ images.stored (words_of rest.now) (state board.width words.now responses.now board.held) bytes.old }
 {
     if !arguments::none(rest) {
         return Outcome::BadLine;
     }
-    let wrote = write(board, words, responses, bytes);
-    match wrote {
-        Wrote::Length(n) => Outcome::Image(n),
-        Wrote::Refused(why) => Outcome::Refused(why),
-    }
-}
-
-// list
-pub fn list(
-    board: Board,
-    rest: &[u8],
-    words: &[u64],
-    responses: &[Response],
-    bytes: &mut [u8],
-) -> Outcome
-    ensures value { result ≡ images.list_outcome (words_of rest.now) (state board.width words.now responses.now board.held) (length bytes.old) }
-    ensures bytes_after { bytes.new ≡ images.stored (words_of rest.now) (state board.width words.now responses.now board.held) bytes.old }
-{
-    if !arguments::none(rest) {
-        return Outcome::BadLine;
-    }
-    let wrote = write(board, words, responses, bytes);
-    match wrote {
-        Wrote::Length(n) => Outcome::Listing(n),
-        Wrote::Refused(why) => Outcome::Refused(why),
+    match image::writing::write(words, responses, board.width, board.held, bytes) {
+        Ok(n) if listed => Outcome::Listing(n),
+        Ok(n) => Outcome::Image(n),
+        Err(why) => Outcome::Refused(why),
     }
 }
 
@@ -75,57 +46,46 @@ pub fn room(
     ensures value { result ≡ images.room_outcome (words_of rest.now) (state board.width words.now responses.now board.held) (length bytes.old) }
     ensures bytes_after { bytes.new ≡ images.room_written (words_of rest.now) (state board.width words.now responses.now board.held) bytes.old }
 {
-    let row = arguments::read(rest, b"k");
-    let k = row.values[0] as usize;
-    if !row.right {
+    let Some(row) = arguments::read(rest, b"k") else {
         return Outcome::BadLine;
-    }
+    };
+    let k = row[0] as usize;
     if bytes.len() < k {
         return Outcome::BadLine;
     }
-    let wrote = write(board, words, responses, &mut bytes[0..k]);
-    match wrote {
-        Wrote::Length(n) => Outcome::Length(n),
-        Wrote::Refused(why) => Outcome::Refused(why),
+    match image::writing::write(words, responses, board.width, board.held, &mut bytes[0..k]) {
+        Ok(n) => Outcome::Length(n),
+        Err(why) => Outcome::Refused(why),
     }
 }
 
 // "An image is one word of digit pairs, or no word for an image of no bytes": how many bytes it has, from the start of `bytes`.
 // The image is what the line has from `at` on.
-fn read_digits(rest: &[u8], at: usize, bytes: &mut [u8]) -> Number
+fn read_digits(rest: &[u8], at: usize, bytes: &mut [u8]) -> Option<u64>
     requires { at ≤ length rest.now }
     ensures value { result ≡ images.image_length (words_of (drop at rest.now)) (length bytes.old) }
     ensures bytes_after { bytes.new ≡ images.kept (words_of (drop at rest.now)) bytes.old }
 {
     let word = text::words::next(rest, at);
-    let from = word.from;
-    let to = word.to;
-    if !text::words::none_left(rest, to) {
-        return Number::Bad;
+    if !text::words::none_left(rest, word.to) {
+        return None;
     }
-    numbers::bytes(&rest[from..to], bytes)
+    numbers::bytes(&rest[word.from..word.to], bytes)
 }
 
 // "on success the machine is the one read"; "the panel stays".
-fn taken(board: Board, found: Read) -> Turn
+fn taken(board: Board, found: Result<Loaded, Refusal>) -> Turn
     ensures { result ≡ images.taken board found }
 {
     match found {
-        Read::Machine {
-            width,
-            words: n,
-            held,
-        } => {
-            let panel = board.panel;
-            fine(Board {
-                width,
-                words: n,
-                responses: n,
-                panel,
-                held,
-            })
-        }
-        Read::Refused(why) => refused(board, why),
+        Ok(loaded) => fine(Board {
+            width: loaded.width,
+            words: loaded.words,
+            responses: loaded.words,
+            held: loaded.held,
+            ..board
+        }),
+        Err(why) => refused(board, why),
     }
 }
 
@@ -140,9 +100,9 @@ fn read(
     r: usize,
 ) -> Turn
     requires { k ≤ length bytes.now }
-    ensures value { result ≡ images.read_turn board (Number.Is k) (take k bytes.now) (images.have w r words.old responses.old) w r }
-    ensures words_after { words.new ≡ images.read_words (Number.Is k) (take k bytes.now) (images.have w r words.old responses.old) w r words.old responses.old }
-    ensures responses_after { responses.new ≡ images.read_responses (Number.Is k) (take k bytes.now) (images.have w r words.old responses.old) w r words.old responses.old }
+    ensures value { result ≡ images.read_turn board (Some k) (take k bytes.now) (images.have w r words.old responses.old) w r }
+    ensures words_after { words.new ≡ images.read_words (Some k) (take k bytes.now) (images.have w r words.old responses.old) w r words.old responses.old }
+    ensures responses_after { responses.new ≡ images.read_responses (Some k) (take k bytes.now) (images.have w r words.old responses.old) w r words.old responses.old }
 {
     if words.len() < w {
         return bad_line(board);
@@ -166,15 +126,14 @@ fn read_into(
     bytes: &mut [u8],
 ) -> Turn
     requires { at ≤ length rest.now }
-    ensures value { result ≡ images.reading_turn board (record { words = Number.Is w; responses = Number.Is r; image = words_of (drop at rest.now) }) words.old responses.old (length bytes.old) }
-    ensures words_after { words.new ≡ images.reading_words (record { words = Number.Is w; responses = Number.Is r; image = words_of (drop at rest.now) }) words.old responses.old (length bytes.old) }
-    ensures responses_after { responses.new ≡ images.reading_responses (record { words = Number.Is w; responses = Number.Is r; image = words_of (drop at rest.now) }) words.old responses.old (length bytes.old) }
+    ensures value { result ≡ images.reading_turn board (record { words = Some w; responses = Some r; image = words_of (drop at rest.now) }) words.old responses.old (length bytes.old) }
+    ensures words_after { words.new ≡ images.reading_words (record { words = Some w; responses = Some r; image = words_of (drop at rest.now) }) words.old responses.old (length bytes.old) }
+    ensures responses_after { responses.new ≡ images.reading_responses (record { words = Some w; responses = Some r; image = words_of (drop at rest.now) }) words.old responses.old (length bytes.old) }
     ensures bytes_after { bytes.new ≡ images.kept (words_of (drop at rest.now)) bytes.old }
 {
-    let found = read_digits(rest, at, bytes);
-    match found {
-        Number::Is(k) => read(board, bytes, k as usize, words, w, responses, r),
-        Number::Bad => bad_line(board),
+    match read_digits(rest, at, bytes) {
+        Some(k) => read(board, bytes, k as usize, words, w, responses, r),
+        None => bad_line(board),
     }
 }
 
@@ -208,20 +167,14 @@ pub fn fit(
     ensures bytes_after { bytes.new ≡ images.reading_bytes (images.fitting (words_of rest.now)) bytes.old }
 {
     let first = text::words::next(rest, 0);
-    let from = first.from;
-    let to = first.to;
-    let n = arguments::read_one(b'n', &rest[from..to]);
-    let second = text::words::next(rest, to);
-    let start = second.from;
-    let end = second.to;
-    let m = arguments::read_one(b'n', &rest[start..end]);
-    let Number::Is(w) = n else {
+    let second = text::words::next(rest, first.to);
+    let Some(w) = arguments::read_one(b'n', &rest[first.from..first.to]) else {
         return bad_line(board);
     };
-    let Number::Is(r) = m else {
+    let Some(r) = arguments::read_one(b'n', &rest[second.from..second.to]) else {
         return bad_line(board);
     };
     read_into(
-        board, rest, end, words, w as usize, responses, r as usize, bytes,
+        board, rest, second.to, words, w as usize, responses, r as usize, bytes,
     )
 }

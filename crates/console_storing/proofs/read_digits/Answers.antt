@@ -1,6 +1,5 @@
 use native.Mathlib.Omega.{arith}
 use Rattle.console_storing.proofs.Digits.{two_words, one_word}
-use borrow.Author.Rules.{rules}
 use mathlib.Core.Bool.{not as opposite}
 use mathlib.Core.Path.{ap as along}
 use Rattle.console_storing.proofs.read_digits.Goals as goal
