@@ -11,7 +11,7 @@ ghost use Rattle.sweeps.specs.Along.{along, each, many};
 ghost use Rattle.sweeps.specs.Rules.{flag, chosen, hit, mark, found, answer, choice, gated, changed, takes, flipped};
 
 use machine::Response;
-use word::{both_of, choice_of, flag_of, flipped_of, hit_of, kept, put_in, summed_of, written_of};
+use word::{choice_of, flag_of, flipped_of, hit_of, kept, put_in};
 pub use word::{chosen_of, new_word};
 
 // What a search works out of the panel once. In each syllable the word's cared bits, turned by a flip, are held against a limit; the carry out of
@@ -47,21 +47,13 @@ pub struct Changes {
     pub tops: u64,
 }
 
-fn shorter(a: usize, b: usize) -> usize
-    ensures { (result ≤ a) × (result ≤ b) × (result ≡ min a b) }
-{
-    if a < b { a } else { b }
-}
-
 // Search, first half of a block: a flag for each word.
 fn flags(m: Masks, words: &[u64], h: &mut [u8; 64])
     requires { (length words.now ≤ 64) × (length h.old ≡ 64) }
     ensures { ((j : ℕ) → j < length words.now → slice_index h.new j ≡ flag m (slice_index words.now j)) × (length h.new ≡ 64) }
 {
-    let mut i: usize = 0;
-    while i < words.len() {
-        h[i] = flag_of(m, words[i]);
-        i += 1;
+    for (i, word) in words.iter().enumerate() {
+        h[i] = flag_of(m, *word);
     }
 }
 
@@ -72,13 +64,11 @@ fn marks(p: Tags, h: &[u8; 64], responses: &mut [Response]) -> u8
     ensures responses_after { responses.new ≡ along (mark p) h.now responses.old }
 {
     let mut n: u8 = 0;
-    let mut i: usize = 0;
-    while i < responses.len() {
-        let r = responses[i];
+    for (i, response) in responses.iter_mut().enumerate() {
+        let r = *response;
         let x = hit_of(p, h[i], r);
-        responses[i] = put_in(p.target, x, r);
-        n += x as u8;
-        i += 1;
+        *response = put_in(p.target, x, r);
+        n += u8::from(x);
     }
     n
 }
@@ -91,12 +81,6 @@ fn block_end(i: usize, n: usize) -> usize
     if 64 < n - i { i + 64 } else { n }
 }
 
-fn size(x: u8) -> usize
-    ensures { result ≡ x }
-{
-    x as usize
-}
-
 // Search alone.
 pub fn search(m: Masks, p: Tags, words: &[u64], responses: &mut [Response]) -> usize
     ensures value { result ≡ count (found m p) words.now responses.old }
@@ -104,12 +88,12 @@ pub fn search(m: Masks, p: Tags, words: &[u64], responses: &mut [Response]) -> u
 {
     let mut n: usize = 0;
     let mut h: [u8; 64] = [0; 64];
-    let all = shorter(words.len(), responses.len());
+    let all = words.len().min(responses.len());
     let mut i: usize = 0;
     while i < all {
         let e = block_end(i, all);
         flags(m, &words[i..e], &mut h);
-        n += size(marks(p, &h, &mut responses[i..e]));
+        n += usize::from(marks(p, &h, &mut responses[i..e]));
         i = e;
     }
     n
@@ -119,10 +103,8 @@ pub fn search(m: Masks, p: Tags, words: &[u64], responses: &mut [Response]) -> u
 pub fn flip(p: Tags, responses: &mut [Response])
     ensures { responses.new ≡ each (flipped p) responses.old }
 {
-    let mut i: usize = 0;
-    while i < responses.len() {
-        responses[i] = flipped_of(p, responses[i]);
-        i += 1;
+    for response in responses.iter_mut() {
+        *response = flipped_of(p, *response);
     }
 }
 
@@ -133,52 +115,22 @@ fn choices(p: Tags, responses: &[Response], g: &mut [u8; 64]) -> u8
     ensures by_index { ((j : ℕ) → j < length responses.now → slice_index g.new j ≡ choice p (slice_index responses.now j)) × (length g.new ≡ 64) }
 {
     let mut n: u8 = 0;
-    let mut i: usize = 0;
-    while i < responses.len() {
-        let x = choice_of(p, responses[i]);
+    for (i, response) in responses.iter().enumerate() {
+        let x = choice_of(p, *response);
         g[i] = x;
         n += x;
-        i += 1;
     }
     n
 }
 
-// Second half, multiwrite alone.
-fn multiwrite(q: Changes, g: &[u8; 64], words: &mut [u64])
+// Second half: multiwrite, multiadd or both.
+fn multi<const WRITE: bool, const ADD: bool>(q: Changes, g: &[u8; 64], words: &mut [u64])
     requires { (length words.old ≤ 64) × (length g.now ≡ 64) }
-    ensures { words.new ≡ along (gated true false q) g.now words.old }
+    ensures { words.new ≡ along (gated WRITE ADD q) g.now words.old }
 {
-    let mut i: usize = 0;
-    while i < words.len() {
-        let w = words[i];
-        words[i] = kept(g[i] == 1, written_of(q, w), w);
-        i += 1;
-    }
-}
-
-// Second half, multiadd alone.
-fn multiadd(q: Changes, g: &[u8; 64], words: &mut [u64])
-    requires { (length words.old ≤ 64) × (length g.now ≡ 64) }
-    ensures { words.new ≡ along (gated false true q) g.now words.old }
-{
-    let mut i: usize = 0;
-    while i < words.len() {
-        let w = words[i];
-        words[i] = kept(g[i] == 1, summed_of(q, w), w);
-        i += 1;
-    }
-}
-
-// Second half, multiwrite and multiadd.
-fn multiboth(q: Changes, g: &[u8; 64], words: &mut [u64])
-    requires { (length words.old ≤ 64) × (length g.now ≡ 64) }
-    ensures { words.new ≡ along (gated true true q) g.now words.old }
-{
-    let mut i: usize = 0;
-    while i < words.len() {
-        let w = words[i];
-        words[i] = kept(g[i] == 1, both_of(q, w), w);
-        i += 1;
+    for (i, word) in words.iter_mut().enumerate() {
+        let w = *word;
+        *word = kept(g[i] == 1, new_word(q, WRITE, ADD, w), w);
     }
 }
 
@@ -186,16 +138,11 @@ fn change_block(q: Changes, write: bool, add: bool, g: &[u8; 64], words: &mut [u
     requires { (length words.old ≤ 64) × (length g.now ≡ 64) }
     ensures { words.new ≡ along (gated write add q) g.now words.old }
 {
-    if write {
-        if add {
-            multiboth(q, g, words);
-        } else {
-            multiwrite(q, g, words);
-        }
-    } else {
-        if add {
-            multiadd(q, g, words);
-        }
+    match (write, add) {
+        (false, false) => {}
+        (false, true) => multi::<false, true>(q, g, words),
+        (true, false) => multi::<true, false>(q, g, words),
+        (true, true) => multi::<true, true>(q, g, words),
     }
 }
 
@@ -213,11 +160,11 @@ pub fn change(
 {
     let mut n: usize = 0;
     let mut g: [u8; 64] = [0; 64];
-    let all = shorter(words.len(), responses.len());
+    let all = words.len().min(responses.len());
     let mut i: usize = 0;
     while i < all {
         let e = block_end(i, all);
-        n += size(choices(p, &responses[i..e], &mut g));
+        n += usize::from(choices(p, &responses[i..e], &mut g));
         change_block(q, write, add, &g, &mut words[i..e]);
         i = e;
     }
@@ -242,14 +189,14 @@ pub fn search_change(
     let mut n: usize = 0;
     let mut h: [u8; 64] = [0; 64];
     let mut g: [u8; 64] = [0; 64];
-    let all = shorter(words.len(), responses.len());
+    let all = words.len().min(responses.len());
     let mut i: usize = 0;
     while i < all {
         let e = block_end(i, all);
         flags(m, &words[i..e], &mut h);
         choices(p, &responses[i..e], &mut g);
         change_block(q, write, add, &g, &mut words[i..e]);
-        n += size(marks(p, &h, &mut responses[i..e]));
+        n += usize::from(marks(p, &h, &mut responses[i..e]));
         i = e;
     }
     n

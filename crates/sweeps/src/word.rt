@@ -1,4 +1,6 @@
 // What a sweep does to one word and its response, rule by rule of specs/Rules.
+#![tactic(auto, unfolding(crate::specs::Rules::test, crate::specs::Rules::flag, crate::specs::Rules::chosen, crate::specs::Rules::hit, crate::specs::Rules::written, crate::specs::Rules::summed, crate::specs::Rules::asked, crate::specs::Rules::both, crate::specs::Rules::new, crate::specs::Rules::choice, crate::specs::Rules::flipped))]
+
 ghost use Rattle.std.specs.Prelude.{◌≡◌, ◌-◌};
 ghost use Rattle.laws.specs.Bits.{pick};
 ghost use Rattle.sweeps.specs.Rules.{test, flag, chosen, hit, put, written, summed, asked, both, new, choice, flipped};
@@ -16,7 +18,7 @@ pub(crate) fn test_of(m: Masks, w: u64) -> u64
 pub(crate) fn flag_of(m: Masks, w: u64) -> u8
     ensures { result ≡ flag m w }
 {
-    (test_of(m, w) == m.want) as u8
+    u8::from(test_of(m, w) == m.want)
 }
 
 pub fn chosen_of(p: Tags, r: Response) -> bool
@@ -28,7 +30,7 @@ pub fn chosen_of(p: Tags, r: Response) -> bool
 pub(crate) fn choice_of(p: Tags, r: Response) -> u8
     ensures { result ≡ choice p r }
 {
-    chosen_of(p, r) as u8
+    u8::from(chosen_of(p, r))
 }
 
 pub(crate) fn hit_of(p: Tags, x: u8, r: Response) -> bool
@@ -87,9 +89,10 @@ pub(crate) fn flipped_of(p: Tags, r: Response) -> Response
 pub fn new_word(q: Changes, write: bool, add: bool, w: u64) -> u64
     ensures { result ≡ new write add q w }
 {
-    if write {
-        if add { both_of(q, w) } else { written_of(q, w) }
-    } else {
-        if add { summed_of(q, w) } else { w }
+    match (write, add) {
+        (false, false) => w,
+        (false, true) => summed_of(q, w),
+        (true, false) => written_of(q, w),
+        (true, true) => both_of(q, w),
     }
 }

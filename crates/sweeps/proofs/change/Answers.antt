@@ -1,6 +1,6 @@
-use Rattle.std.proofs.Common.{◌≡◌, ◌-◌, length, refl, ◌∙◌, arith, rules}
-use Rattle.sweeps.specs.Rules.{changed, takes}
-use Rattle.sweeps.proofs.Along.{Walk, start, finish, Tally, none_yet, all_counted}
+use Rattle.std.proofs.Common.{refl, ◌∙◌, arith, rules}
+use Rattle.sweeps.specs.Rules.{takes}
+use Rattle.sweeps.proofs.Along.{start, finish, none_yet, all_counted}
 use Rattle.sweeps.proofs.Blocks.{length_between}
 use Rattle.sweeps.proofs.Searched.{rewritten, chosen_counted}
 use Rattle.sweeps.proofs.change.Goals as goal
@@ -28,7 +28,7 @@ loop-i-preserved c =
     let e = c.block_end-e in
     let d = c.choices in
     let g = c.change_block in
-    let z = c.size-n in (
+    let z = c.from-n in (
       rewritten c.loop-i.i e.result (search rules) a.responses.now a.words.now a.responses.now c.loop-i.words (search rules) (search rules) refl
           a.write a.add a.q a.p d.new.g g.new.words c.loop-i.invariant.0 (omega (arith, e.ensures, d.ensures.by_index.1)) d.ensures.by_index.0 g.ensures,
       chosen_counted c.loop-i.i e.result (search rules) a.responses.now a.words.now a.responses.now c.loop-i.words (search rules) (search rules) refl

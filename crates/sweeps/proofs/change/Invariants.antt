@@ -1,9 +1,7 @@
 -- The invariant: a walk along the words beside their response bits, and the count so far. One turn is one block.
-use Rattle.std.proofs.Common.{◌≡◌, ◌-◌, length, refl, ◌∙◌, arith, rules}
+use Rattle.std.proofs.Common.{◌≡◌, ◌-◌, length}
 use Rattle.sweeps.specs.Rules.{changed, takes}
-use Rattle.sweeps.proofs.Along.{Walk, start, finish, Tally, none_yet, all_counted}
-use Rattle.sweeps.proofs.Blocks.{length_between}
-use Rattle.sweeps.proofs.Searched.{rewritten, chosen_counted}
+use Rattle.sweeps.proofs.Along.{Walk, Tally}
 use Rattle.sweeps.proofs.change.Given as goal
 
 abbrev pub invariant-loop-i : goal.invariant-loop-i

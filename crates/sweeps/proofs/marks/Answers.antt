@@ -1,7 +1,7 @@
-use Rattle.std.proofs.Common.{◌≡◌, ℕ, ◌-◌, Bool, length, get_or, ap, ◌∙◌, arith, rules}
+use Rattle.std.proofs.Common.{◌≡◌, ℕ, Bool, get_or, ap, ◌∙◌, arith, rules}
 use Rattle.sweeps.specs.declared.Tags.{Tags}
 use Rattle.sweeps.specs.Rules.{hit, mark, put}
-use Rattle.sweeps.proofs.Along.{Walk, start, step, here, finish, Tally, none_yet, step_counts, all_counted, byte_is, byte_le}
+use Rattle.sweeps.proofs.Along.{start, step, here, finish, none_yet, step_counts, all_counted, byte_is, byte_le}
 use Rattle.sweeps.proofs.marks.Goals as goal
 
 marked_is : (p : Tags) (x r : ℕ) {y : ℕ} {t : Bool} → y ≡ put p.target t r → t ≡ hit p x r → y ≡ mark p x r
@@ -23,7 +23,7 @@ loop-i-preserved c =
     let x = c.hit_of-x in (
       step (mark a.p) a.h.now a.responses.now r i w c.put_in.result (search rules) (search rules)
           (marked_is a.p (get_or a.h.now i 0) (get_or r i 0) c.put_in.ensures x.ensures),
-      rw (byte_is x.result)
+      rw (c.from-n.ensures ∙ byte_is x.result)
           (step_counts (hit a.p) a.h.now a.responses.now c.loop-i.n i x.result c.loop-i.invariant.1 (search rules) (search rules)
           (x.ensures ∙ ap (hit a.p (get_or a.h.now i 0)) (here (mark a.p) a.h.now a.responses.now r i w))),
     )

@@ -1,6 +1,6 @@
-use Rattle.std.proofs.Common.{◌≡◌, ◌-◌, length, refl, ◌∙◌, arith, rules}
-use Rattle.sweeps.specs.Rules.{found, answer}
-use Rattle.sweeps.proofs.Along.{Walk, start, finish, Tally, none_yet, all_counted}
+use Rattle.std.proofs.Common.{refl, ◌∙◌, arith, rules}
+use Rattle.sweeps.specs.Rules.{found}
+use Rattle.sweeps.proofs.Along.{start, finish, none_yet, all_counted}
 use Rattle.sweeps.proofs.Blocks.{length_between}
 use Rattle.sweeps.proofs.Searched.{searched}
 use Rattle.sweeps.proofs.search.Goals as goal
@@ -28,8 +28,8 @@ loop-i-preserved c =
     let e = c.block_end-e in
     let d =
     searched c.loop-i.i e.result (search rules) a.words.now a.responses.now a.words.now c.loop-i.responses (search rules) (search rules) refl
-    a.m a.p f.new.h b.new.responses c.loop-i.n c.size-n.result c.loop-i.invariant.0 c.loop-i.invariant.1
-    (omega (arith, e.ensures, f.ensures.1)) f.ensures.0 b.ensures.responses_after (c.size-n.ensures ∙ b.ensures.value) in
+    a.m a.p f.new.h b.new.responses c.loop-i.n c.from-n.result c.loop-i.invariant.0 c.loop-i.invariant.1
+    (omega (arith, e.ensures, f.ensures.1)) f.ensures.0 b.ensures.responses_after (c.from-n.ensures ∙ b.ensures.value) in
     (d.0, d.1, f.ensures.1)
 
 pub returns : goal.returns

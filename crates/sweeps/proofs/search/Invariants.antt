@@ -1,9 +1,7 @@
 -- The invariant: a walk along the response bits beside the words, the count so far, and h's length. One turn is one block.
-use Rattle.std.proofs.Common.{◌≡◌, ◌-◌, length, refl, ◌∙◌, arith, rules}
+use Rattle.std.proofs.Common.{◌≡◌, ◌-◌, length}
 use Rattle.sweeps.specs.Rules.{found, answer}
-use Rattle.sweeps.proofs.Along.{Walk, start, finish, Tally, none_yet, all_counted}
-use Rattle.sweeps.proofs.Blocks.{length_between}
-use Rattle.sweeps.proofs.Searched.{searched}
+use Rattle.sweeps.proofs.Along.{Walk, Tally}
 use Rattle.sweeps.proofs.search.Given as goal
 
 abbrev pub invariant-loop-i : goal.invariant-loop-i

@@ -1,6 +1,6 @@
-use Rattle.std.proofs.Common.{◌≡◌, ◌-◌, length, refl, ◌∙◌, arith, rules}
-use Rattle.sweeps.specs.Rules.{found, answer, changed}
-use Rattle.sweeps.proofs.Along.{Walk, start, finish, Tally, none_yet, all_counted}
+use Rattle.std.proofs.Common.{refl, ◌∙◌, arith, rules}
+use Rattle.sweeps.specs.Rules.{found}
+use Rattle.sweeps.proofs.Along.{start, finish, none_yet, all_counted}
 use Rattle.sweeps.proofs.Blocks.{length_between}
 use Rattle.sweeps.proofs.Searched.{searched, rewritten}
 use Rattle.sweeps.proofs.search_change.Goals as goal
@@ -21,7 +21,7 @@ choices-requires c =
       omega (
         arith,
         e.ensures,
-        length_between c.loop-i.i e.result c.loop-i.responses (omega (arith, e.ensures, c.shorter-all.ensures, c.loop-i.invariant.1.long)),
+        length_between c.loop-i.i e.result c.loop-i.responses (omega (arith, e.ensures, c.min-all.ensures, c.loop-i.invariant.1.long)),
       ),
       c.loop-i.invariant.4,
     )
@@ -32,7 +32,7 @@ change_block-requires c =
       omega (
         arith,
         e.ensures,
-        length_between c.loop-i.i e.result c.loop-i.words (omega (arith, e.ensures, c.shorter-all.ensures, c.loop-i.invariant.0.long)),
+        length_between c.loop-i.i e.result c.loop-i.words (omega (arith, e.ensures, c.min-all.ensures, c.loop-i.invariant.0.long)),
       ),
       c.choices.ensures.by_index.1,
     )
@@ -43,7 +43,7 @@ marks-requires c =
       omega (
         arith,
         e.ensures,
-        length_between c.loop-i.i e.result c.loop-i.responses (omega (arith, e.ensures, c.shorter-all.ensures, c.loop-i.invariant.1.long)),
+        length_between c.loop-i.i e.result c.loop-i.responses (omega (arith, e.ensures, c.min-all.ensures, c.loop-i.invariant.1.long)),
       ),
       c.flags.ensures.1,
     )
@@ -55,10 +55,10 @@ overflow_add-n c =
     let b = c.marks in
     let e = c.block_end-e in
     let d =
-    searched c.loop-i.i e.result (search rules) a.words.now a.responses.now c.loop-i.words c.loop-i.responses (omega (arith, e.ensures, c.shorter-all.ensures))
-    (omega (arith, e.ensures, c.shorter-all.ensures)) c.loop-i.invariant.0.left a.m a.p f.new.h b.new.responses c.loop-i.n c.size-n.result c.loop-i.invariant.1 c.loop-i.invariant.2
-    (omega (arith, e.ensures, f.ensures.1)) f.ensures.0 b.ensures.responses_after (c.size-n.ensures ∙ b.ensures.value) in
-    omega (arith, d.1.few, e.ensures, c.shorter-all.ensures)
+    searched c.loop-i.i e.result (search rules) a.words.now a.responses.now c.loop-i.words c.loop-i.responses (omega (arith, e.ensures, c.min-all.ensures))
+    (omega (arith, e.ensures, c.min-all.ensures)) c.loop-i.invariant.0.left a.m a.p f.new.h b.new.responses c.loop-i.n c.from-n.result c.loop-i.invariant.1 c.loop-i.invariant.2
+    (omega (arith, e.ensures, f.ensures.1)) f.ensures.0 b.ensures.responses_after (c.from-n.ensures ∙ b.ensures.value) in
+    omega (arith, d.1.few, e.ensures, c.min-all.ensures)
 
 pub loop-i-preserved : goal.loop-i-preserved
 loop-i-preserved c =
@@ -69,11 +69,11 @@ loop-i-preserved c =
     let k = c.choices in
     let g = c.change_block in
     let d =
-    searched c.loop-i.i e.result (search rules) a.words.now a.responses.now c.loop-i.words c.loop-i.responses (omega (arith, e.ensures, c.shorter-all.ensures))
-    (omega (arith, e.ensures, c.shorter-all.ensures)) c.loop-i.invariant.0.left a.m a.p f.new.h b.new.responses c.loop-i.n c.size-n.result c.loop-i.invariant.1 c.loop-i.invariant.2
-    (omega (arith, e.ensures, f.ensures.1)) f.ensures.0 b.ensures.responses_after (c.size-n.ensures ∙ b.ensures.value) in (
+    searched c.loop-i.i e.result (search rules) a.words.now a.responses.now c.loop-i.words c.loop-i.responses (omega (arith, e.ensures, c.min-all.ensures))
+    (omega (arith, e.ensures, c.min-all.ensures)) c.loop-i.invariant.0.left a.m a.p f.new.h b.new.responses c.loop-i.n c.from-n.result c.loop-i.invariant.1 c.loop-i.invariant.2
+    (omega (arith, e.ensures, f.ensures.1)) f.ensures.0 b.ensures.responses_after (c.from-n.ensures ∙ b.ensures.value) in (
       rewritten c.loop-i.i e.result (search rules) a.responses.now a.words.now c.loop-i.responses c.loop-i.words
-          (omega (arith, e.ensures, c.shorter-all.ensures)) (omega (arith, e.ensures, c.shorter-all.ensures)) c.loop-i.invariant.1.left
+          (omega (arith, e.ensures, c.min-all.ensures)) (omega (arith, e.ensures, c.min-all.ensures)) c.loop-i.invariant.1.left
           a.write a.add a.q a.p k.new.g g.new.words c.loop-i.invariant.0 (omega (arith, e.ensures, k.ensures.by_index.1)) k.ensures.by_index.0 g.ensures,
       d.0,
       d.1,

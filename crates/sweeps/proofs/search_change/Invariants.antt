@@ -1,9 +1,7 @@
 -- The invariant: a walk along the words and one along the response bits, both from the lists at entry, and the count so far. One turn is one block.
-use Rattle.std.proofs.Common.{◌≡◌, ◌-◌, length, refl, ◌∙◌, arith, rules}
+use Rattle.std.proofs.Common.{◌≡◌, ◌-◌, length}
 use Rattle.sweeps.specs.Rules.{found, answer, changed}
-use Rattle.sweeps.proofs.Along.{Walk, start, finish, Tally, none_yet, all_counted}
-use Rattle.sweeps.proofs.Blocks.{length_between}
-use Rattle.sweeps.proofs.Searched.{searched, rewritten}
+use Rattle.sweeps.proofs.Along.{Walk, Tally}
 use Rattle.sweeps.proofs.search_change.Given as goal
 
 abbrev pub invariant-loop-i : goal.invariant-loop-i
