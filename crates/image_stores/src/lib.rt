@@ -56,7 +56,7 @@ pub fn put_machine(out: &mut [u8], words: &[u64], responses: &[Response], width:
     let n = words.len();
     let m = responses.len();
     let p0 = put(out, WIDTH_AT, COUNT_SIZE, 1);
-    let p1 = put(out, p0, WIDTH_SIZE, width as u64);
+    let p1 = put(out, p0, WIDTH_SIZE, u64::from(width));
     let p2 = put(out, p1, COUNT_SIZE, n as u64);
     let p3 = put_words(out, p2, words);
     let p4 = put(out, p3, COUNT_SIZE, m as u64);
@@ -69,8 +69,8 @@ pub fn put_job(out: &mut [u8], at: usize, o: Job) -> usize
     ensures { (result ≡ at + record_size) × (out.new ≡ sets out.old at (job_bytes o)) }
 {
     let p0 = put_bytes(out, at, &[o.kind]);
-    let p1 = put(out, p0, RESPONSE_SIZE, o.key as u64);
-    let p2 = put(out, p1, RESPONSE_SIZE, o.care as u64);
+    let p1 = put(out, p0, RESPONSE_SIZE, u64::from(o.key));
+    let p2 = put(out, p1, RESPONSE_SIZE, u64::from(o.care));
     let small = [
         o.x.0, o.y.0, o.a.low.0, o.a.width, o.b.low.0, o.b.width, o.p.low.0, o.p.width, o.phase,
         o.i, o.j,

@@ -11,7 +11,7 @@ returns c =
     let a = c.args in
     wrote_machine (machine a.width a.words.now a.responses.now) a.out.now _ _ _ _ _ _ _ _ _ _ _ _
     c.put-p0.ensures
-    c.put-p1.ensures
+    (rw c.from.ensures at c.put-p1.ensures)
     c.put-p2.ensures
     c.put_words-p3.ensures
     c.put-p4.ensures
