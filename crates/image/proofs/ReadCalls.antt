@@ -2,11 +2,11 @@
 use Prim.Native.Nat.{ℕ, zero, suc, ◌+◌, ◌*◌, ◌-◌, ◌≤◌}
 use mathlib.Core.Path.{◌≡◌, refl, sym, ap, ◌∙◌}
 use mathlib.Core.Bool.{◌||◌}
-use mathlib.Core.List.{List, [], ◌∷◌, ◌++◌}
+use mathlib.Core.List.{List, [], ◌∷◌, ◌++◌, append-nil}
 use native.Mathlib.Omega.{arith}
 use lib.Dec.{ltb}
 use lib.ListN.{length, take, drop, length-drop}
-use lib.Seq.{sets, sets-eq}
+use lib.Seq.{sets, sets-eq, drop-length, length-take-le}
 use borrow.Author.Tests.{ltb-false}
 use Rattle.std.specs.Prelude.{Result, Ok, Err}
 use Rattle.machine.specs.declared.Refusal.{Refusal}
@@ -21,7 +21,23 @@ use Rattle.image_parts.proofs.Parts.{Long, long}
 use Rattle.image.specs.Calls.{refuse_bytes, read_check, read_of, words_read, responses_read}
 use Rattle.image.specs.declared.Loaded.{Loaded}
 
--- ---- responses, each of one byte, are copied as they are
+-- ---- numbers written over the first n of a destination
+
+put_first : (d xs : List ℕ) (n : ℕ) → length xs ≡ n → n ≤ length d → xs ++ drop n d ≡ sets d 0 xs
+put_first d xs n e h =
+    let k : 0 + length xs ≡ n = omega (arith, e) in
+    let m : 0 + length xs ≤ length d = omega (arith, k) in
+    sym (rw k at (sets-eq xs d 0 m))
+
+pub put_all : (d xs : List ℕ) → length xs ≡ length d → xs ≡ sets d 0 xs
+put_all d xs e =
+    let f : xs ++ drop (length d) d ≡ xs = rw (drop-length, append-nil) in
+    sym f ∙ put_first d xs (length d) e (omega arith)
+
+pub filled : (k : ℕ) (d b xs : List ℕ) (n : ℕ) → n ≤ length d → xs ≡ numbers k (length (take n d)) b → xs ++ drop n d ≡ sets d 0 (numbers k n b)
+filled k d b xs n h e = rw (e, length-take-le n d h) (put_first d (numbers k n b) n (length_numbers k n b) h)
+
+-- responses, each of one byte, are copied as they are
 
 numbers_are : (n : ℕ) (b : List ℕ) → n ≤ length b → take n b ≡ numbers response_size n b
 unfolding numbers value
@@ -31,15 +47,17 @@ numbers_are (suc n) (x ∷ b) h =
     let e : x ≡ x + 256 * 0 = omega arith in
     rw (← e) (ap (λ (r : List ℕ). x ∷ r) (numbers_are n b (omega arith)))
 
-pub copied : (d b x : List ℕ) (at n : ℕ) → at + response_size * n ≤ length b → n ≤ length d → x ≡ take (at + n - at) (drop at b)
+pub copied_length : (d b : List ℕ) (at n : ℕ) → n ≤ length d → at + n ≤ length b → length (take n d) ≡ length (take (at + n - at) (drop at b))
+copied_length d b at n h g =
+    let k : at + n - at ≡ n = omega arith in
+    rw k (length-take-le n d h ∙ sym (length-take-le n (drop at b) (omega (arith, length-drop at b))))
+
+pub copied : (d b x : List ℕ) (at n : ℕ) → n ≤ length d → at + n ≤ length b → x ≡ take (at + n - at) (drop at b)
     → x ++ drop n d ≡ sets d 0 (numbers response_size n (drop at b))
 copied d b x at n h g e =
-    let xs = numbers response_size n (drop at b) in
     let k : at + n - at ≡ n = omega arith in
-    let f : x ≡ xs = rw k at e ∙ numbers_are n (drop at b) (omega (arith, length-drop at b)) in
-    let l : 0 + length xs ≡ n = omega (arith, length_numbers response_size n (drop at b)) in
-    let m : 0 + length xs ≤ length d = omega (arith, l) in
-    rw f (sym (rw l at (sets-eq xs d 0 m)))
+    let f : x ≡ numbers response_size n (drop at b) = rw k at e ∙ numbers_are n (drop at b) (omega (arith, length-drop at b)) in
+    rw f (put_first d _ n (length_numbers response_size n (drop at b)) h)
 
 -- ---- the call
 
@@ -77,6 +95,22 @@ pub room : (b : List ℕ) (n w r : ℕ) → Ok tt ≡ read_check b w r → n ≡
 room b n w r e g =
     let f = fits b w r e in
     record { few = rw g f.long.few; room = rw g f.long.room; words = rw g f.words; responses = rw g f.responses }
+
+-- so by each clause
+pub words_few : (b : List ℕ) (w r : ℕ) → read_check b w r ≡ Ok tt → words_in b ≤ 1024
+words_few b w r e = (fits b w r (sym e)).long.few
+
+pub image_long : (b : List ℕ) (w r : ℕ) → read_check b w r ≡ Ok tt → past_section (jobs_at (words_in b)) record_size (number_at count_size (jobs_at (words_in b)) b) ≤ length b
+image_long b w r e = (fits b w r (sym e)).long.room
+
+pub words_fit : (b : List ℕ) (w r : ℕ) → read_check b w r ≡ Ok tt → words_in b ≤ w
+words_fit b w r e = (fits b w r (sym e)).words
+
+pub responses_fit : (b : List ℕ) (w r : ℕ) → read_check b w r ≡ Ok tt → words_in b ≤ r
+responses_fit b w r e = (fits b w r (sym e)).responses
+
+-- what the check cites where reading is accepted
+pub ruleset accepted = (words_few, image_long, words_fit, responses_fit, length-take-le, copied_length)
 
 pub read_refused : (b ws rs : List ℕ) (why : Refusal) → Err why ≡ read_check b (length ws) (length rs)
     → (Err why ≡ read_of b (length ws) (length rs)) × ((ws ≡ words_read b ws rs) × (rs ≡ responses_read b ws rs))

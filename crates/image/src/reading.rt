@@ -1,8 +1,7 @@
 // Reading: checked "for 9 and 10"; it "changes only the first n of each destination".
 // Document 01, 'The image' and 'Numbers given when a call is turned down'.
 ghost use Rattle.std.specs.Prelude.{◌≡◌, ◌+◌, ◌*◌, ◌≤◌, length, drop};
-ghost use Rattle.std.proofs.lemmas.List.Edits.{sets};
-ghost use Rattle.image_layout.specs.Sizes.{word_size, response_size};
+ghost use Rattle.image_layout.specs.Sizes.{word_size};
 ghost use Rattle.image_layout.specs.Reading.{numbers};
 ghost use Rattle.image.specs.Calls.{refuse_bytes, read_check, read_of, words_read, responses_read};
 
@@ -27,23 +26,16 @@ pub fn check_read(image: &[u8], words: usize, responses: usize) -> Result<(), Re
     machine::refuse(Refusal::NoRoom, (words < n) | (responses < n))
 }
 
-fn fill_words(image: &[u8], at: usize, words: &mut [u64], n: usize)
-    requires { (at + word_size * n ≤ length image.now) × (n ≤ length words.old) }
-    ensures { words.new ≡ sets words.old 0 (numbers word_size n (drop at image.now)) }
+fn fill_words(image: &[u8], at: usize, words: &mut [u64])
+    requires { at + word_size * length words.old ≤ length image.now }
+    ensures { words.new ≡ numbers word_size (length words.old) (drop at image.now) }
 {
-    for i in 0..n {
-        words[i] = image_fields::number_at(image, at + WORD_SIZE * i, WORD_SIZE);
+    for (i, word) in words.iter_mut().enumerate() {
+        *word = image_fields::number_at(image, at + WORD_SIZE * i, WORD_SIZE);
     }
 }
 
-// Each is one byte: as they are.
-fn fill_responses(image: &[u8], at: usize, responses: &mut [Response], n: usize)
-    requires { (at + response_size * n ≤ length image.now) × (n ≤ length responses.old) }
-    ensures { responses.new ≡ sets responses.old 0 (numbers response_size n (drop at image.now)) }
-{
-    responses[..n].copy_from_slice(&image[at..at + n]);
-}
-
+#[tactic(auto, using(crate::proofs::ReadCalls::accepted))]
 pub fn read(image: &[u8], words: &mut [u64], responses: &mut [Response]) -> Result<Loaded, Refusal>
     ensures value { result ≡ read_of image.now (length words.old) (length responses.old) }
     ensures words_after { words.new ≡ words_read image.now words.old responses.old }
@@ -51,9 +43,10 @@ pub fn read(image: &[u8], words: &mut [u64], responses: &mut [Response]) -> Resu
 {
     check_read(image, words.len(), responses.len())?;
     let n = image_fields::words_in(image);
-    let responses_at = image_layout::responses_at(n);
-    fill_words(image, WORDS_AT + COUNT_SIZE, words, n);
-    fill_responses(image, responses_at + COUNT_SIZE, responses, n);
+    let responses_at = image_layout::responses_at(n) + COUNT_SIZE;
+    fill_words(image, WORDS_AT + COUNT_SIZE, &mut words[..n]);
+    // Each is one byte: as they are.
+    responses[..n].copy_from_slice(&image[responses_at..responses_at + n]);
     Ok(Loaded {
         width: image_fields::width_in(image),
         words: n,

@@ -9,5 +9,5 @@ use Rattle.image.proofs.reading.fill_words.Given as goal
 
 abbrev pub invariant-loop-i : goal.invariant-loop-i
 invariant-loop-i l =
-    (length l.words ≡ length l.initial.words)
-    × (sets l.initial.words 0 (numbers word_size l.n (drop l.at l.image)) ≡ sets l.words l.i (numbers word_size (l.n - l.i) (drop (l.at + word_size * l.i) l.image)))
+    numbers word_size (length l.initial.words) (drop l.at l.image)
+    ≡ sets l.words l.i (numbers word_size (length l.initial.words - l.i) (drop (l.at + word_size * l.i) l.image))
