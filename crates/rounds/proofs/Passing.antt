@@ -5,27 +5,17 @@ use mathlib.Core.Bool.{Bool, false, not}
 use native.Mathlib.Omega.{arith}
 use lib.Dec.{leb, eqb}
 use borrow.Author.Tests.{leb-false, eq-eqb, eqb-true, eqb-false, not-false}
-use Rattle.std.specs.Prelude.{Option, Some, None, Ok, Err}
+use Rattle.std.specs.Prelude.{Option, Some, None, Ok}
 use Rattle.machine.specs.declared.WordSlice.{WordSlice}
 use Rattle.machine.specs.declared.ResponseBit.{ResponseBit}
 use Rattle.machine.specs.declared.Refusal.TheVariants.{NotShown}
 use Rattle.machine.specs.Machine.{Machine, response_bits}
 use Rattle.machine.specs.Refusals.{Check, machine_check, bit_check, apart_check, ◌else◌, refuse}
-use Rattle.machine.proofs.Refusals.{else_passed, not_refused}
+use Rattle.machine.proofs.Refusals.{else_assoc, else_passed, not_refused}
 use Rattle.resolver.proofs.Lowest.{found_exactly}
 use Rattle.resolver.specs.Answers.{LowestAt}
 use Rattle.rounds.specs.Round.{has, shown, show_check, pair_check, round_check, other_than, answer_check}
 use Rattle.rounds.specs.Round.{Fit}
-
--- ---- chains of checks
-
-pub else_assoc : (c d e : Check) → ((c else d) else e) ≡ (c else (d else e))
-else_assoc (Ok tt) d e = refl
-else_assoc (Err r) d e = refl
-
--- a check that the code makes and that passes
-pub made_passed : (c d : Check) → c ≡ d → c ≡ Ok tt → d ≡ Ok tt
-made_passed c d h g = sym h ∙ g
 
 pub both_passed : (c d : Check) → c ≡ Ok tt → d ≡ Ok tt → (c else d) ≡ Ok tt
 both_passed c d h g = rw (h, g)

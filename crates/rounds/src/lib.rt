@@ -60,6 +60,7 @@ pub fn check_round(
 }
 
 // The lowest word with bit X: resolution with X as key and care.
+#[tactic(auto, using(crate::proofs::Marks::lowest_mask))]
 fn lowest_with(responses: &[Response], x: ResponseBit) -> Option<WordSlice>
     requires { x.0 < response_bits }
     ensures { result ≡ lowest (has x) 0 responses.now }
@@ -102,6 +103,7 @@ pub fn show(
 }
 
 // 'Answer "done" for the shown word clears its X. Answer "faulty" clears its X and sets its F.'
+#[tactic(auto, using(crate::proofs::Marks::done_mask, crate::proofs::Marks::faulty_mask))]
 fn judged(response: Response, x: ResponseBit, f: ResponseBit, verdict: Verdict) -> Response
     requires { (x.0 < response_bits) × (f.0 < response_bits) }
     ensures { result ≡ answered x f verdict response }
