@@ -1,23 +1,22 @@
 -- The panel that the code hands on keeps what counts of the buffer: all of it where the buffer's check passes, and always what a pulse is
--- checked for. And of two numbers the lower one.
-use Prim.Native.Nat.{ℕ, ◌%◌, ◌^◌, ◌<◌, ◌≤◌}
+-- checked for.
+use Prim.Native.Nat.{ℕ, ◌%◌, ◌^◌}
 use mathlib.Core.Path.{◌≡◌, refl}
 use mathlib.Core.Bool.{false, not, ◌||◌}
 use mathlib.Core.List.{List}
 use native.Mathlib.Nat.{mod-eq_of_lt}
 use lib.Dec.{eqb}
 use lib.ListN.{length, get_or}
-use borrow.Author.Tests.{leb-false, lt-ltb, le-ltb}
-use Rattle.std.specs.Prelude.{Ok, Err}
+use borrow.Author.Tests.{leb-false}
+use Rattle.std.specs.Prelude.{Ok}
 use Rattle.machine.specs.declared.Lines.{Lines}
-use Rattle.machine.specs.declared.Refusal.{Refusal}
 use Rattle.machine.specs.declared.Refusal.TheVariants.{Size, PanelTooWide}
 use Rattle.machine.specs.Machine.{Machine, response_bits}
 use Rattle.machine.specs.Panel.{panel_of}
 use Rattle.machine.specs.Search.{one_code, one_setting, compared_only}
-use Rattle.machine.specs.Refusals.{Check, too_wide, bad_panel, bad_codes, bad_address, refuse, pulse_check, number_of, turn}
+use Rattle.machine.specs.Refusals.{too_wide, bad_panel, bad_codes, bad_address, refuse, pulse_check}
 use Rattle.machine.proofs.Refusals.{else_passed, not_refused, or_left, or_right}
-use Rattle.entry_forms.specs.Numbers.{panel_size, overflows, panel_check, panel_in, lower_of}
+use Rattle.entry_forms.specs.Numbers.{panel_size, overflows, panel_check, panel_in}
 
 narrow : (x : ℕ) → too_wide response_bits x ≡ false → x % 2 ^ response_bits ≡ x
 narrow x h = mod-eq_of_lt (leb-false (2 ^ response_bits) x h)
@@ -37,13 +36,3 @@ panel_in_lem rs h =
 pub check_in : (m : Machine) (rs : List ℕ) (l : Lines) → pulse_check m (panel_in rs) l ≡ pulse_check m (panel_of rs) l
 unfolding pulse_check bad_panel bad_codes bad_address one_code one_setting compared_only
 check_in m rs l = refl
-
--- ---- of two numbers the one whose turn comes first: both arms of the code's test
-
-pub lower_yes : (own why : Refusal) (other : Check) (n k : ℕ) → other ≡ Err why → n ≡ turn (number_of why) → k ≡ turn (number_of own) → n < k
-    → why ≡ lower_of own other
-lower_yes own why other n k e en ek h = rw (e, ← en, ← ek, lt-ltb n k h)
-
-pub lower_no : (own why : Refusal) (other : Check) (n k : ℕ) → other ≡ Err why → n ≡ turn (number_of why) → k ≡ turn (number_of own) → k ≤ n
-    → own ≡ lower_of own other
-lower_no own why other n k e en ek h = rw (e, ← en, ← ek, le-ltb n k h)

@@ -77,6 +77,7 @@ fn put_held(job: &mut [u8], held: Option<Job>) -> usize
 }
 
 // All of it, or nothing where it has no room.
+#[tactic(auto, using(crate::proofs::Recorded::length_record))]
 pub fn put_record(job: &mut [u8], held: Option<Job>)
     ensures { job.new ≡ tell_in (forms.record_of held) job.old }
 {
