@@ -60,11 +60,11 @@ write_then s room l e f i =
 
 -- ---- the call
 
-pub write_room : (s : State) (room : ℕ) → Ok tt ≡ write_check s room
+pub write_room : (s : State) (room : ℕ) → write_check s room ≡ Ok tt
     → past_section (part_size s.machine) record_size (length (held_jobs s.held)) ≤ room
 unfolding write_check
 write_room s room e =
-    let a = else_passed (machine_check s.machine) _ (sym e) in
+    let a = else_passed (machine_check s.machine) _ e in
     let b = else_passed (jobs_check s.machine.width (held_jobs s.held)) _ a.1 in
     omega (arith, length_image s, ltb-false room (length (image_of s)) (not_refused NoRoom _ b.1))
 

@@ -42,6 +42,7 @@ pub fn check_write(
     machine::refuse(Refusal::NoRoom, room < size)
 }
 
+#[tactic(auto, using(crate::proofs::WriteCalls::write_room))]
 pub fn write(
     words: &[u64],
     responses: &[Response],

@@ -1,21 +1,8 @@
 use mathlib.Core.Path.{◌∙◌}
-use native.Mathlib.Omega.{arith}
-use lib.ListN.{length}
 use Rattle.machine.proofs.Refusals.{handed}
 use Rattle.jobs.specs.Runs.{state}
-use Rattle.image.proofs.WriteCalls.{write_room, write_refused, write_done}
+use Rattle.image.proofs.WriteCalls.{write_refused, write_done}
 use Rattle.image.proofs.writing.write.Goals as goal
-
-pub put_machine-at-requires : goal.put_machine-at-requires
-put_machine-at-requires c =
-    let a = c.args in
-    omega (arith, write_room (state a.width a.words.now a.responses.now a.held) (length a.out.now) c.in_ok-check_write.ensures)
-
-pub put_held-requires : goal.put_held-requires
-put_held-requires c =
-    let a = c.args in
-    let p = c.put_machine-at in
-    omega (arith, write_room (state a.width a.words.now a.responses.now a.held) (length a.out.now) c.in_ok-check_write.ensures, p.ensures.0, p.auto.out)
 
 pub returns-in_err-check_write : goal.returns-in_err-check_write
 returns-in_err-check_write c =
