@@ -26,7 +26,7 @@ fn add_word(width: u32, t: u64, w: u64, a: u64) -> u64
     requires { (0 < width) × (width ≤ 64) }
     ensures { result ≡ add_in (fields width t) w a 0 }
 {
-    let low = std::num::wrapping_add_u64(w & !t, a & !t);
+    let low = (w & !t).wrapping_add(a & !t);
     (low ^ ((w ^ a) & t)) & machine::low_bits(width)
 }
 
@@ -37,7 +37,7 @@ pub fn filled(width: u32, t: u64, q: u64) -> u64
     ensures { result ≡ above_in (fields width t) q 0 0 }
 {
     let u = machine::low_bits(width);
-    let low = std::num::wrapping_add_u64(q & !t, u & !t);
+    let low = (q & !t).wrapping_add(u & !t);
     ((q & u) | ((q | u) & low)) & t
 }
 
@@ -52,6 +52,7 @@ pub fn mixed(width: u32, t: u64, x: u64, y: u64) -> u64
 
 // ---- what a pulse works out of the panel once
 
+#[tactic(auto, unfolding(crate::specs::Plan::tags_of))]
 pub fn make_tags(panel: Panel) -> Tags
     ensures { result ≡ tags_of panel }
 {
@@ -90,6 +91,7 @@ pub fn make_masks(width: u32, panel: Panel) -> Masks
     }
 }
 
+#[tactic(auto, unfolding(crate::specs::Plan::changes_of))]
 pub fn make_changes(width: u32, panel: Panel) -> Changes
     requires { Fit width panel }
     ensures { result ≡ changes_of width panel }

@@ -1,5 +1,5 @@
 -- The masks of a search are those of the plan.
-use Rattle.std.proofs.Common.{refl, rules}
+use Rattle.std.proofs.Common.{refl}
 use lib.Bits.{or_lt}
 use Rattle.masks.specs.Plan.{masks_of}
 use Rattle.masks.proofs.Words.{fit_tops}

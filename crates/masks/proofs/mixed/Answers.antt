@@ -1,5 +1,5 @@
 -- Two numbers are mixed in a syllable exactly where both and their difference fill it.
-use Rattle.std.proofs.Common.{refl, rules}
+use Rattle.std.proofs.Common.{refl}
 use lib.Bits.{xor_lt}
 use Rattle.fields.specs.Codes.{clash}
 use Rattle.masks.proofs.mixed.Goals as goal

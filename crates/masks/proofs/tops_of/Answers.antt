@@ -1,5 +1,5 @@
 -- One, shifted up, is bit N-1.
-use Rattle.std.proofs.Common.{ap, rules}
+use Rattle.std.proofs.Common.{ap}
 use lib.Bits.{bit_or}
 use Rattle.masks.proofs.Words.{top_is}
 use Rattle.masks.proofs.tops_of.Goals as goal
