@@ -11,7 +11,7 @@ use machine::Response;
 pub(crate) fn test_of(m: Masks, w: u64) -> u64
     ensures { result ≡ test m w }
 {
-    let low = std::num::wrapping_add_u64(m.rest, (w & m.lowcare) ^ m.lowflip);
+    let low = m.rest.wrapping_add((w & m.lowcare) ^ m.lowflip);
     ((w & m.topcare) ^ m.topflip) & (low ^ m.limit)
 }
 
@@ -55,7 +55,7 @@ pub(crate) fn written_of(q: Changes, w: u64) -> u64
 pub(crate) fn summed_of(q: Changes, w: u64) -> u64
     ensures { result ≡ summed q w }
 {
-    let low = std::num::wrapping_add_u64(w & q.low, q.rest);
+    let low = (w & q.low).wrapping_add(q.rest);
     low ^ ((w ^ q.addend) & q.tops)
 }
 
@@ -64,7 +64,7 @@ pub(crate) fn asked_of(q: Changes, w: u64) -> u64
     ensures { result ≡ asked q w }
 {
     let low = w & q.low;
-    std::num::wrapping_add_u64(low, q.rest) ^ low ^ (q.addend & q.tops)
+    low.wrapping_add(q.rest) ^ low ^ (q.addend & q.tops)
 }
 
 // "a bit flips if either asks"
