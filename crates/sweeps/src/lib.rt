@@ -90,6 +90,7 @@ pub fn search(m: Masks, p: Tags, words: &[u64], responses: &mut [Response]) -> u
     let mut h: [u8; 64] = [0; 64];
     let all = words.len().min(responses.len());
     let mut i: usize = 0;
+    // tried: `step_by(64)`; the end of a block is worked out all the same, and the proof then has two ends of the loop
     while i < all {
         let e = block_end(i, all);
         flags(m, &words[i..e], &mut h);
@@ -162,6 +163,7 @@ pub fn change(
     let mut g: [u8; 64] = [0; 64];
     let all = words.len().min(responses.len());
     let mut i: usize = 0;
+    // tried: `step_by(64)`; the end of a block is worked out all the same, and the proof then has two ends of the loop
     while i < all {
         let e = block_end(i, all);
         n += usize::from(choices(p, &responses[i..e], &mut g));
@@ -191,6 +193,7 @@ pub fn search_change(
     let mut g: [u8; 64] = [0; 64];
     let all = words.len().min(responses.len());
     let mut i: usize = 0;
+    // tried: `step_by(64)`; the end of a block is worked out all the same, and the proof then has two ends of the loop
     while i < all {
         let e = block_end(i, all);
         flags(m, &words[i..e], &mut h);

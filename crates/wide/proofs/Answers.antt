@@ -1,10 +1,9 @@
 -- What a pulse answers and leaves, where nothing is turned down and where something is.
 -- Document 01, 'Numbers given when a call is turned down': "Nothing lent changes; other answer fields are 0."
-use Prim.Native.Nat.{ℕ, ◌<◌}
-use mathlib.Core.Path.{◌≡◌, refl}
-use mathlib.Core.Bool.{Bool, true, false, ◌||◌}
+use Prim.Native.Nat.{ℕ}
+use mathlib.Core.Path.{◌≡◌}
 use mathlib.Core.List.{List}
-use lib.ListN.{length, get_or}
+use lib.ListN.{get_or}
 use Rattle.laws.specs.Bits.{pick}
 use Rattle.machine.specs.declared.Panel.{Panel}
 use Rattle.machine.specs.declared.Lines.{Lines}
@@ -13,17 +12,6 @@ use Rattle.std.specs.Prelude.{Ok, Err}
 use Rattle.machine.specs.Machine.{Machine}
 use Rattle.machine.specs.Pulse.{count_of, read_of, pulsed}
 use Rattle.machine.specs.Refusals.{pulse_check, answer_of, after}
-use Rattle.wide.specs.Accepted.{Accepted}
-
--- where read is raised there is a word at the address
-pub read_in_range : (n : ℕ) (p : Panel) (l : Lines) (ws rs : List ℕ) → Accepted n p l ws rs → l.read ≡ true → p.address.0 < length ws
-read_in_range n p l ws rs a h = a.address (raised l.read l.write l.add h)
-  where
-    raised : (x y z : Bool) → x ≡ true → (x || y || z) ≡ true
-    raised true true z h = refl
-    raised true false true h = refl
-    raised true false false h = refl
-    raised false y z h = cc
 
 module _ (m : Machine) (p : Panel) (l : Lines) where
   pub done : (k x : ℕ) (ws rs : List ℕ) → pulse_check m p l ≡ Ok tt → k ≡ count_of m p l → x ≡ pick l.read (get_or m.words p.address.0 0) 0

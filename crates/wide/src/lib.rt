@@ -119,10 +119,8 @@ fn sweep_others(
     );
     if lines.complement {
         sweeps::flip(tags, responses);
-        n
-    } else {
-        n
     }
+    n
 }
 
 fn sweep(
@@ -189,11 +187,13 @@ pub fn give(
 
 // "Read gives the word before the pulse." "Read's word is 0 if read isn't raised."
 fn read_word(panel: Panel, lines: Lines, words: &[u64]) -> u64
-    requires { lines.read ≡ true → panel.address.0 < length words.now }
     ensures { result ≡ pick lines.read (get_or words.now panel.address.0 0) 0 }
 {
-    let at = panel.address.0;
-    if lines.read { words[at] } else { 0 }
+    if lines.read {
+        words.get(panel.address.0).copied().unwrap_or(0)
+    } else {
+        0
+    }
 }
 
 // One pulse, or a refusal: what is lent is changed only where nothing is refused.

@@ -2,8 +2,7 @@
 use mathlib.Core.Path.{sym, ◌∙◌}
 use Rattle.machine.specs.Machine.{machine}
 use Rattle.machine.proofs.Refusals.{handed}
-use Rattle.wide.proofs.Accepted.{accepted}
-use Rattle.wide.proofs.Answers.{read_in_range, done, turned_down}
+use Rattle.wide.proofs.Answers.{done, turned_down}
 use Rattle.wide.proofs.pulse.Goals as goal
 
 pub returns-in_err-check : goal.returns-in_err-check
@@ -13,11 +12,6 @@ returns-in_err-check c =
       words_after = q.1.0;
       responses_after = q.1.1;
     }
-
-pub read_word-read-requires : goal.read_word-read-requires
-read_word-read-requires c =
-    let a = c.args in
-    read_in_range a.width a.panel a.lines a.words.now a.responses.now (accepted a.width a.panel a.lines a.words.now a.responses.now (sym c.in_ok-check.ensures))
 
 pub give-count-requires : goal.give-count-requires
 give-count-requires c = sym c.in_ok-check.ensures
