@@ -1,2 +1,1 @@
 -- laws of the entry points
-pub mod Numbers

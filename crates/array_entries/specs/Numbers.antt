@@ -1,18 +1,13 @@
 -- An operation, the registers and an answer as plain numbers, for callers in other languages.
-use Rattle.std.specs.Prelude.{ℕ, suc, ◌*◌, ◌/◌, ◌%◌, ◌^◌, Bool, ◌&&◌, List, [], ◌∷◌, ltb, eqb, length, get_or}
+use Rattle.std.specs.Prelude.{ℕ, suc, ◌*◌, ◌/◌, ◌%◌, ◌^◌, Bool, ◌&&◌, List, [], ◌∷◌, ltb, eqb, length, get_or, Option, Some, None, Result, Ok, Err}
 use Rattle.laws.specs.Bits.{pick}
 use Rattle.array.specs.declared.Registers.{Registers}
+use Rattle.array.specs.declared.Operation.{Operation}
 use Rattle.array.specs.declared.Operation.TheVariants.{Search, Read, Write}
-use Rattle.array.specs.declared.Check.{Check}
-use Rattle.array.specs.declared.Check.TheVariants as check
 use Rattle.array.specs.declared.Answer.{Answer}
-use Rattle.array.specs.declared.Answer.TheVariants.{Done, Refused}
+use Rattle.array.specs.declared.Refusal.{Refusal}
 use Rattle.array.specs.Operations.{Array}
-use Rattle.array.specs.Refusals.{call_check, answer_of, after, Told, told}
-use Rattle.array_lines.specs.declared.Asked.{Asked}
-use Rattle.array_lines.specs.declared.Asked.TheVariants.{Is, Bad}
-use Rattle.array_entries.specs.declared.Order.{Order}
-use Rattle.array_entries.specs.declared.Order.TheVariants.{Does, Turned}
+use Rattle.array.specs.Refusals.{Check, call_check, answer_of, after, Told, told}
 use Rattle.array_lines.specs.Choices.{source_at, mask_at, wanted_at, latches_at, combine_at, selector_at, form_at, sink_at, kind_at}
 
 -- ---- a code (house, docs/DECISIONS.md 'How does a caller in another language name an operation?'): digits to the base 4, the lowest 0 for search,
@@ -33,37 +28,37 @@ named code k (names ∷ more) = ltb (digit_of code k) names && named code (suc k
 abbrev pub is_search : ℕ → Bool
 is_search code = named code 1 (2 ∷ 3 ∷ 2 ∷ 2 ∷ 3 ∷ [])
 
-abbrev pub search_of : ℕ → Asked
+abbrev pub search_of : ℕ → Option Operation
 search_of code =
     pick (is_search code)
-    (Is (Search (source_at (digit_of code 1)) (mask_at (digit_of code 2)) (wanted_at (digit_of code 3)) (latches_at (digit_of code 4)) (combine_at (digit_of code 5))))
-    Bad
+    (Some (Search (source_at (digit_of code 1)) (mask_at (digit_of code 2)) (wanted_at (digit_of code 3)) (latches_at (digit_of code 4)) (combine_at (digit_of code 5))))
+    None
 
 -- SET, SENSE, SINK, MASK
 abbrev pub is_read : ℕ → Bool
 is_read code = named code 1 (3 ∷ 2 ∷ 3 ∷ 3 ∷ [])
 
-abbrev pub read_of : ℕ → Asked
+abbrev pub read_of : ℕ → Option Operation
 read_of code =
     pick (is_read code)
-    (Is (Read (selector_at (digit_of code 1)) (form_at (digit_of code 2)) (sink_at (digit_of code 3)) (mask_at (digit_of code 4))))
-    Bad
+    (Some (Read (selector_at (digit_of code 1)) (form_at (digit_of code 2)) (sink_at (digit_of code 3)) (mask_at (digit_of code 4))))
+    None
 
 -- KIND, DATA, MASK, SET, SENSE
 abbrev pub is_write : ℕ → Bool
 is_write code = named code 1 (2 ∷ 2 ∷ 3 ∷ 3 ∷ 2 ∷ [])
 
-abbrev pub write_of : ℕ → Asked
+abbrev pub write_of : ℕ → Option Operation
 write_of code =
     pick (is_write code)
-    (Is (Write (kind_at (digit_of code 1)) (source_at (digit_of code 2)) (mask_at (digit_of code 3)) (selector_at (digit_of code 4)) (form_at (digit_of code 5))))
-    Bad
+    (Some (Write (kind_at (digit_of code 1)) (source_at (digit_of code 2)) (mask_at (digit_of code 3)) (selector_at (digit_of code 4)) (form_at (digit_of code 5))))
+    None
 
-abbrev pub operation_of : ℕ → Asked
+abbrev pub operation_of : ℕ → Option Operation
 operation_of code =
     pick (eqb (digit_of code 0) 0) (search_of code)
     (pick (eqb (digit_of code 0) 1) (read_of code)
-    (pick (eqb (digit_of code 0) 2) (write_of code) Bad))
+    (pick (eqb (digit_of code 0) 2) (write_of code) None))
 
 -- ---- R1, R2 and M in a lent buffer of three
 
@@ -77,9 +72,9 @@ abbrev pub answer_size : ℕ
 answer_size = 6
 
 -- a code that names no operation is 6, and a buffer without room for the answer 10
-abbrev pub order_of : Asked → ℕ → Order
-order_of Bad room = Turned 6
-order_of (Is o) room = pick (ltb room answer_size) (Turned 10) (Does o)
+abbrev pub order_of : Option Operation → ℕ → Result Operation ℕ
+order_of None room = Err 6
+order_of (Some o) room = pick (ltb room answer_size) (Err 10) (Ok o)
 
 -- ---- what it is told: in this order 1 for a buffer of registers that is not of three, the numbers of the operation itself, 6 and 10 (house)
 
@@ -88,12 +83,12 @@ abbrev pub refused : ℕ → Told
 refused number = record { refusal = number; also = 0; registers = record { r1 = 0; r2 = 0; m = 0 }; count = 0 }
 
 abbrev pub turned : Check → ℕ → Told
-turned check.Passed number = refused number
-turned (check.Refused why) number = told (Refused why)
+turned (Ok tt) number = refused number
+turned (Err why) number = told (Err why)
 
-abbrev pub told_by : Array → Registers → Order → Told
-told_by a r (Does o) = told (answer_of a r o)
-told_by a r (Turned number) = turned (call_check a r) number
+abbrev pub told_by : Array → Registers → Result Operation ℕ → Told
+told_by a r (Ok o) = told (answer_of a r o)
+told_by a r (Err number) = turned (call_check a r) number
 
 abbrev pub is_three : List ℕ → Bool
 is_three held = eqb (length held) 3
@@ -108,21 +103,21 @@ numbers_of t = t.refusal ∷ t.also ∷ t.registers.r1 ∷ t.registers.r2 ∷ t.
 
 -- ---- what is left: nothing lent changes on a refusal
 
-abbrev pub left_by : Array → Registers → Order → Array
-left_by a r (Does o) = after a r o
-left_by a r (Turned number) = a
+abbrev pub left_by : Array → Registers → Result Operation ℕ → Array
+left_by a r (Ok o) = after a r o
+left_by a r (Err number) = a
 
 unfoldable pub left : Array → List ℕ → ℕ → ℕ → Array
 left a held code room = pick (is_three held) (left_by a (registers_of held) (order_of (operation_of code) room)) a
 
 -- the registers after an accepted operation
-abbrev pub loaded : Answer → List ℕ → List ℕ
-loaded (Done r count) held = r.r1 ∷ r.r2 ∷ r.m ∷ []
-loaded (Refused why) held = held
+abbrev pub loaded : Result Answer Refusal → List ℕ → List ℕ
+loaded (Ok a) held = a.registers.r1 ∷ a.registers.r2 ∷ a.registers.m ∷ []
+loaded (Err why) held = held
 
-abbrev pub registers_by : Array → Registers → Order → List ℕ → List ℕ
-registers_by a r (Does o) held = loaded (answer_of a r o) held
-registers_by a r (Turned number) held = held
+abbrev pub registers_by : Array → Registers → Result Operation ℕ → List ℕ → List ℕ
+registers_by a r (Ok o) held = loaded (answer_of a r o) held
+registers_by a r (Err number) held = held
 
 unfoldable pub registers_left : Array → List ℕ → ℕ → ℕ → List ℕ
 registers_left a held code room = pick (is_three held) (registers_by a (registers_of held) (order_of (operation_of code) room) held) held
