@@ -4,9 +4,9 @@
 -- buffer has the numbers told, or is as it was if it is too short for them.
 use Prim.Native.Nat.{ℕ}
 use mathlib.Core.Path.{◌≡◌}
-use mathlib.Core.List.{List, []}
-use Rattle.machine.specs.declared.Check.{Check}
-use Rattle.machine.specs.declared.Check.TheVariants.{Passed}
+use mathlib.Core.List.{List}
+use Rattle.std.specs.Prelude.{Ok}
+use Rattle.machine.specs.Refusals.{Check}
 use Rattle.promises.proofs.Demand1.{Entry, first}
 use Rattle.entry_promises.proofs.Lowest.{lowest}
 
@@ -17,7 +17,7 @@ use Rattle.entry_promises.proofs.Lowest.{lowest}
 pub record Enters {T : Type 0} (tell : T → ℕ × ℕ) (own table : List Entry) (call : Check) (number : ℕ) (t says : T) : Type 0 where
   pub returned : number ≡ (tell t).0
   pub lowest_told : tell t ≡ lowest (first own) (first table)
-  pub accepted : number ≡ 0 → (call ≡ Passed) × (t ≡ says)
+  pub accepted : number ≡ 0 → (call ≡ Ok tt) × (t ≡ says)
 
 -- of what is lent by &mut, `before` the call and `now`, where `left` is what the call itself leaves
 pub record Keeps {A : Type 0} (number : ℕ) (before left now : A) : Type 0 where

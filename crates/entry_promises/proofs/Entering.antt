@@ -10,11 +10,8 @@ use contract.Lifetimes.{Lfts}
 use borrow.Fn.World.{ArgsD, ResD}
 use borrow.Fn.Kinds.{ended_of}
 use denote.Triple.Clauses.{AtExit}
-use Rattle.machine.specs.declared.Answer.TheVariants as answered
-use Rattle.machine.specs.declared.Check.{Check}
-use Rattle.machine.specs.declared.Check.TheVariants.{Passed, Refused}
-use Rattle.machine.specs.declared.Found.{Found}
-use Rattle.machine.specs.declared.Found.TheVariants.{At, Nothing}
+use Rattle.std.specs.Prelude.{Option, Some, None, Result, Ok, Err}
+use Rattle.machine.specs.declared.Answer.{Answer}
 use Rattle.machine.specs.declared.Refusal.{Refusal}
 use Rattle.machine.specs.declared.Refusal.TheVariants.{PanelTooWide}
 use Rattle.machine.specs.declared.ResponseBit.{ResponseBit}
@@ -24,41 +21,33 @@ use Rattle.machine.specs.Panel as panel
 use Rattle.machine.specs.declared.WordSlice.{WordSlice}
 use Rattle.machine.specs.Pulse.{count_of, pulsed}
 use Rattle.machine.specs.Pulse as pulse
-use Rattle.machine.specs.Refusals.{◌else◌, refuse, machine_check, pulse_check, answer_by, change_by, answer_of, after, tells, number_of, Told, told}
+use Rattle.machine.specs.Refusals.{Check, ◌else◌, refuse, machine_check, pulse_check, answer_by, change_by, answer_of, after, tells, Told, told}
 use Rattle.machine.specs.Resolution.{resolved}
 use Rattle.machine.proofs.Refusals.{some_number}
 use Rattle.panel.specs.Numbered.{takes}
-use Rattle.resolver.specs.declared.Resolved.TheVariants as found
-use Rattle.resolver.specs.Answers.{as_resolved, resolution}
+use Rattle.resolver.specs.Answers.{resolution}
 use Rattle.resolver.specs.Answers as resolving
-use Rattle.rounds.specs.declared.Reply.TheVariants as reply
 use Rattle.rounds.specs.Round.{shown, show_check, show_of, round_check, answer_check, reply_of, answered_at, after_answer}
 use Rattle.rounds.specs.Round as rounding
-use Rattle.handout.specs.declared.Report.TheVariants as report
 use Rattle.handout.specs.Whole.{ended, report_of, after_ended, after_round, verdict_by}
 use Rattle.handout.specs.Whole as whole
-use Rattle.job_plans.specs.declared.Held.{Held}
-use Rattle.job_plans.specs.declared.Held.TheVariants.{Holds}
-use Rattle.job_plans.specs.declared.Held.TheVariants as none
+use Rattle.job_plans.specs.declared.Job.{Job}
+use Rattle.job_plans.specs.Fields.{Held}
 use Rattle.job_plans.specs.Places.{first as firstPlace, none_held}
-use Rattle.job_tally.specs.declared.Total.TheVariants as tally
 use Rattle.job_tally.specs.Totals.{held_pulses, total_check, total_of}
 use Rattle.job_tally.specs.Totals as totals
-use Rattle.jobs.specs.declared.Started.TheVariants as started
 use Rattle.jobs.specs.declared.Stepped.{Stepped}
-use Rattle.jobs.specs.declared.Stepped.TheVariants as gives
-use Rattle.jobs.specs.Calls.{start_check, start_of, step_check, gave, step_of, machine_after, after_step, ToldStarted, told_started, ToldStepped, told_stepped}
+use Rattle.jobs.specs.Calls.{start_check, start_of, step_check, gave, given_by, step_of, machine_after, after_step, ToldStarted, told_started, ToldStepped, told_stepped}
 use Rattle.jobs.specs.Runs.{state}
 use Rattle.image_layout.specs.Format.{image_of}
 use Rattle.image_layout.specs.Reading.{state_in}
-use Rattle.image.specs.declared.Wrote.TheVariants as wrote
-use Rattle.image.specs.declared.Read.TheVariants as back
+use Rattle.image.specs.declared.Loaded.{Loaded}
 use Rattle.image.specs.Calls.{write_check, write_of, written, read_check, read_of, words_read, responses_read, ToldWrote, told_wrote, ToldRead, told_read}
-use Rattle.explainer.specs.declared.Explained.{Explained}
-use Rattle.explainer.specs.declared.Explained.TheVariants as explains
+use Rattle.explainer.specs.declared.Reason.{Reason}
 use Rattle.explainer.specs.Reasons as reasons
 use Rattle.explainer.specs.Reasons.{explain_check, reason_at, explained}
 use Rattle.explainer.proofs.Answers.{reason_answers}
+use Rattle.promises.proofs.Calls.{machine_in}
 use Rattle.promises.proofs.Explaining.{TrueAt, accepted_true}
 use Rattle.promises.proofs.Demand1.{Entry, first, given, machine_table, pulse_table, explain_table, show_table, answer_table, round_table, start_table, steps_table, total_table, write_table, read_table}
 use Rattle.promises.proofs.Given.{pulse_given, explain_given, resolution_given, show_given, answer_given, round_given, start_given, step_given, total_given, write_given, read_given}
@@ -115,29 +104,29 @@ use Rattle.entry_promises.proofs.Entered.{Enters, Keeps}
 
 -- ---- one law for all
 
--- of a call that answers `turned` of a refusal and `done` otherwise, by its check
-module _ {A : Type 0} (turned : Refusal → A) (done : A) (own call : Check) where
+-- of a call, `answer` by its check
+module _ {A : Type 0} (answer : Check → A) (own call : Check) where
   -- what the entry answers, and what the call does
   abbrev entry_says : A
-  entry_says = answer_by (lower own call) turned done
+  entry_says = answer (lower own call)
 
   abbrev call_says : A
-  call_says = answer_by call turned done
+  call_says = answer call
 
   -- an answer's number and what it also answers are those of its check
-  tell_given : (tell : A → ℕ × ℕ) → ((r : Refusal) → tell (turned r) ≡ tells r) → (call ≡ Passed → tell done ≡ (0, 0))
+  tell_given : (tell : A → ℕ × ℕ) → ((r : Refusal) → tell (answer (Err r)) ≡ tells r) → (call ≡ Ok tt → tell (answer (Ok tt)) ≡ (0, 0))
       → tell entry_says ≡ given (lower own call)
   tell_given tell e z = go (lower own call) refl
     where
-      go : (c : Check) → lower own call ≡ c → tell (answer_by c turned done) ≡ given c
-      go Passed h = z (both_pass own call (ap (λ (d : Check). (given d).0) h)).1
-      go (Refused r) h = e r
+      go : (c : Check) → lower own call ≡ c → tell (answer c) ≡ given c
+      go (Ok tt) h = z (both_pass own call (ap (λ (d : Check). (given d).0) h)).1
+      go (Err r) h = e r
 
-  same_answer : own ≡ Passed → entry_says ≡ call_says
-  same_answer e = ap (λ (d : Check). answer_by (lower d call) turned done) e
+  same_answer : own ≡ Ok tt → entry_says ≡ call_says
+  same_answer e = ap (λ (d : Check). answer (lower d call)) e
 
-  enters_by : {T : Type 0} (tell : T → ℕ × ℕ) (told : A → T) → ((r : Refusal) → tell (told (turned r)) ≡ tells r)
-      → (call ≡ Passed → tell (told done) ≡ (0, 0)) → (es fs : List Entry) → given own ≡ first es → given call ≡ first fs
+  enters_by : {T : Type 0} (tell : T → ℕ × ℕ) (told : A → T) → ((r : Refusal) → tell (told (answer (Err r))) ≡ tells r)
+      → (call ≡ Ok tt → tell (told (answer (Ok tt))) ≡ (0, 0)) → (es fs : List Entry) → given own ≡ first es → given call ≡ first fs
       → (n : ℕ) → n ≡ (tell (told entry_says)).0 → Enters tell es fs call n (told entry_says) (told call_says)
   enters_by tell told e z es fs f g n k =
       let told_is = tell_given (λ (a : A). tell (told a)) e z in
@@ -149,8 +138,8 @@ module _ {A : Type 0} (turned : Refusal → A) (done : A) (own call : Check) whe
       }
 
   -- what is left is a matter of the answer: `left` of a refusal is what was there before
-  keeps_by : {B : Type 0} (tell : A → ℕ × ℕ) → ((r : Refusal) → tell (turned r) ≡ tells r) → (call ≡ Passed → tell done ≡ (0, 0))
-      → (left : A → B) (before : B) → ((r : Refusal) → left (turned r) ≡ before)
+  keeps_by : {B : Type 0} (tell : A → ℕ × ℕ) → ((r : Refusal) → tell (answer (Err r)) ≡ tells r) → (call ≡ Ok tt → tell (answer (Ok tt)) ≡ (0, 0))
+      → (left : A → B) (before : B) → ((r : Refusal) → left (answer (Err r)) ≡ before)
       → (n : ℕ) → n ≡ (tell entry_says).0 → (now : B) → now ≡ left entry_says → Keeps n before (left call_says) now
   keeps_by tell e z left before k n h now g =
       let number_is : n ≡ (given (lower own call)).0 = h ∙ ap (λ (x : ℕ × ℕ). x.0) (tell_given tell e z) in
@@ -159,9 +148,9 @@ module _ {A : Type 0} (turned : Refusal → A) (done : A) (own call : Check) whe
         refused = λ y. g ∙ go (lower own call) (λ w. y (number_is ∙ w));
       }
     where
-      go : (c : Check) → ((given c).0 ≡ 0 → ⊥) → left (answer_by c turned done) ≡ before
-      go Passed y = absurd (y refl)
-      go (Refused r) y = k r
+      go : (c : Check) → ((given c).0 ≡ 0 → ⊥) → left (answer c) ≡ before
+      go (Ok tt) y = absurd (y refl)
+      go (Err r) y = k r
 
 -- the same law of what changes by a check: `part` of it
 kept_by : {A B : Type 0} (own call : Check) (part : A → B) (new old : A) (n : ℕ) → n ≡ (given (lower own call)).0
@@ -173,8 +162,8 @@ kept_by own call part new old n h now g =
     }
   where
     go : (c : Check) → ((given c).0 ≡ 0 → ⊥) → part (change_by c new old) ≡ part old
-    go Passed y = absurd (y refl)
-    go (Refused r) y = refl
+    go (Ok tt) y = absurd (y refl)
+    go (Err r) y = refl
 
 -- ---- the panel's load
 
@@ -190,20 +179,20 @@ load_enters κs a r s h =
     let k = a.1.0 in
     let v = a.1.1.0 in
     let own = lower (panel_check registers) (refuse PanelTooWide (not (takes k v))) in
-    let number_is : r ≡ (given (lower own Passed)).0 = h.0 ∙ by_number own in (
+    let number_is : r ≡ (given (lower own (Ok tt))).0 = h.0 ∙ by_number own in (
       h.0 ∙ by_number own ∙ ap (λ (x : ℕ × ℕ). x.0) (same own ∙ load_own registers k v),
-      kept_by own Passed (λ (xs : List ℕ). xs) (panel.load k v (panel_of registers)) registers r number_is s.0.now (h.1 ∙ sym (ap (λ (c : Check). change_by c (panel.load k v (panel_of registers)) registers) (passed_lower own))),
+      kept_by own (Ok tt) (λ (xs : List ℕ). xs) (panel.load k v (panel_of registers)) registers r number_is s.0.now (h.1 ∙ sym (ap (λ (c : Check). change_by c (panel.load k v (panel_of registers)) registers) (passed_lower own))),
     )
   where
-    passed_lower : (c : Check) → lower c Passed ≡ c
-    passed_lower Passed = refl
-    passed_lower (Refused w) = refl
+    passed_lower : (c : Check) → lower c (Ok tt) ≡ c
+    passed_lower (Ok tt) = refl
+    passed_lower (Err w) = refl
 
-    by_number : (c : Check) → answer_by c number_of 0 ≡ (given (lower c Passed)).0
-    by_number Passed = refl
-    by_number (Refused w) = refl
+    by_number : (c : Check) → pulses.number_in c ≡ (given (lower c (Ok tt))).0
+    by_number (Ok tt) = refl
+    by_number (Err w) = refl
 
-    same : (c : Check) → given (lower c Passed) ≡ given c
+    same : (c : Check) → given (lower c (Ok tt)) ≡ given c
     same c = ap given (passed_lower c)
 
 -- ---- both pulses
@@ -234,10 +223,10 @@ a_pulse m registers lines answer number answer' words responses e f g h =
     let l = lines_of lines in
     let own = pulses.pulse_own registers lines room in
     let call = pulse_check m p l in
-    let done = answered.Done (count_of m p l) (pulse.read_of m p l) in
+    let says : Check → Result Answer Refusal = λ c. answer_by c (record { count = count_of m p l; read = pulse.read_of m p l }) in
     let number_is : number ≡ (given (lower own call)).0
-    = e ∙ ap (λ (x : ℕ × ℕ). x.0) (tell_given answered.Refused done own call (λ a. tells_pulse (told a)) (λ r. refl) (λ z. refl)) in (
-      enters_by answered.Refused done own call tells_pulse told (λ r. refl) (λ z. refl) (pulse_own_table registers lines pulses.pulse_size room) (pulse_table m p l)
+    = e ∙ ap (λ (x : ℕ × ℕ). x.0) (tell_given says own call (λ a. tells_pulse (told a)) (λ r. refl) (λ z. refl)) in (
+      enters_by says own call tells_pulse told (λ r. refl) (λ z. refl) (pulse_own_table registers lines pulses.pulse_size room) (pulse_table m p l)
           (pulse_own registers lines pulses.pulse_size room) (pulse_given m p l) number e,
       (
         f,
@@ -286,7 +275,7 @@ explain_enters κs a r s h =
     let p = panel_of registers in
     let word : WordSlice = record { 0 = a.1.1.1.1.0 } in
     let room = length a.1.1.1.1.1.0.now in (
-      enters_by explains.Refused (reason_at m p word) (pulses.explain_own registers room) (explain_check m p word) tells_explained reasons.told (λ w. refl)
+      enters_by (λ (c : Check). answer_by c (reason_at m p word)) (pulses.explain_own registers room) (explain_check m p word) tells_explained reasons.told (λ w. refl)
           (λ z. reason_answers _ p _ _) (explain_own_table registers pulses.explained_size room) (explain_table m p word)
           (explain_own registers pulses.explained_size room) (explain_given m p word) r h.0,
       h.1,
@@ -297,7 +286,7 @@ pub explain_entry_true : (κs : Lfts 4) (a : ArgsD explain.signature κs) (r : R
     → explain-reads.Post κs a r s → r ≡ 0
     → let m = machine a.1.1.0 a.0.now a.1.0.now in
     let answer = a.1.1.1.1.1.0.now in
-    (e : Explained) × (s.1.1.1.1.1.0.now ≡ tell_in (pulses.explained_numbers (reasons.told e)) answer) × TrueAt m (panel_of a.1.1.1.0.now) (record { 0 = a.1.1.1.1.0 }) e
+    (e : Result Reason Refusal) × (s.1.1.1.1.1.0.now ≡ tell_in (pulses.explained_numbers (reasons.told e)) answer) × TrueAt m (panel_of a.1.1.1.0.now) (record { 0 = a.1.1.1.1.0 }) e
 explain_entry_true κs a r s h z =
     let m = machine a.1.1.0 a.0.now a.1.0.now in
     let p = panel_of a.1.1.1.0.now in
@@ -318,9 +307,9 @@ Resolution key care m answer number answer' =
     Enters tells_resolved (room_table resolved_size room) (machine_table m []) (machine_check m) number t (resolving.told (resolution key care m))
     × (answer' ≡ tell_in (resolved_numbers t) answer)
 
-no_number : (w : Found) → tells_resolved (resolving.told (as_resolved w)) ≡ (0, 0)
-no_number (At k) = refl
-no_number Nothing = refl
+no_number : (w : Option WordSlice) → tells_resolved (resolving.told (Ok w)) ≡ (0, 0)
+no_number (Some k) = refl
+no_number None = refl
 
 a_resolution : (key care : ℕ) (m : Machine) (answer : List ℕ) (number : ℕ) (answer' : List ℕ)
     → number ≡ (pulses.resolved_told key care m (length answer)).refusal
@@ -329,7 +318,7 @@ unfolding pulses.resolved_told resolution
 a_resolution key care m answer number answer' e f =
     let room = length answer in
     let w = resolved key care m in (
-      enters_by found.Refused (as_resolved w) (room_check resolved_size room) (machine_check m) tells_resolved resolving.told (λ r. refl) (λ z. no_number w)
+      enters_by (λ (c : Check). answer_by c w) (room_check resolved_size room) (machine_check m) tells_resolved resolving.told (λ r. refl) (λ z. no_number w)
           (room_table resolved_size room) (machine_table m []) (room_own resolved_size room) (resolution_given m) number e,
       f,
     )
@@ -363,7 +352,7 @@ show_enters κs a r s h =
     let m = machine a.1.1.0 a.0.now a.1.0.now in
     let x = rounds.bit_of a.1.1.1.0 in
     let room = length a.1.1.1.1.0.now in (
-      enters_by found.Refused (as_resolved (shown x m)) (room_check resolved_size room) (show_check x m) tells_resolved resolving.told (λ w. refl)
+      enters_by (λ (c : Check). answer_by c (shown x m)) (room_check resolved_size room) (show_check x m) tells_resolved resolving.told (λ w. refl)
           (λ z. no_number (shown x m)) (room_table resolved_size room) (show_table x m) (room_own resolved_size room) (show_given x m) r h.0,
       h.1,
     )
@@ -393,8 +382,8 @@ answer_enters κs a r s h =
     let own = room_check rounds.reply_size room in
     let call = answer_check x f k m in
     let number_is : r ≡ (given (lower own call)).0
-    = h.0 ∙ ap (λ (u : ℕ × ℕ). u.0) (tell_given reply.Refused reply.Taken own call rounding.told (λ w. refl) (λ z. refl)) in (
-      enters_by reply.Refused reply.Taken own call (λ u. u) rounding.told (λ w. refl) (λ z. refl) (room_table rounds.reply_size room) (answer_table x f k m)
+    = h.0 ∙ ap (λ (u : ℕ × ℕ). u.0) (tell_given (λ (c : Check). c) own call rounding.told (λ w. refl) (λ z. refl)) in (
+      enters_by (λ (c : Check). c) own call (λ u. u) rounding.told (λ w. refl) (λ z. refl) (room_table rounds.reply_size room) (answer_table x f k m)
           (room_own rounds.reply_size room) (answer_given x f k m) r h.0,
       (h.1.0, kept_by own call (λ (n : Machine). n.responses) (answered_at x f k verdict m) m r number_is s.1.0.now h.1.1),
     )
@@ -402,7 +391,7 @@ answer_enters κs a r s h =
 abbrev tells_report : whole.Told → ℕ × ℕ
 tells_report t = (t.refusal, t.also)
 
-ended_no_number : (x : ResponseBit) (verdicts : List ℕ) (m : Machine) → tells_report (whole.told (ended x verdicts m)) ≡ (0, 0)
+ended_no_number : (x : ResponseBit) (verdicts : List ℕ) (m : Machine) → tells_report (whole.told (Ok (ended x verdicts m))) ≡ (0, 0)
 unfolding ended
 ended_no_number x verdicts m = refl
 
@@ -427,8 +416,8 @@ round_enters κs a r s h =
     let own = room_check rounds.report_size room in
     let call = round_check x f m in
     let number_is : r ≡ (given (lower own call)).0
-    = h.0 ∙ ap (λ (u : ℕ × ℕ). u.0) (tell_given report.Refused (ended x verdicts m) own call (λ w. tells_report (whole.told w)) (λ w. refl) (λ z. ended_no_number x verdicts m)) in (
-      enters_by report.Refused (ended x verdicts m) own call tells_report whole.told (λ w. refl) (λ z. ended_no_number x verdicts m) (room_table rounds.report_size room) (round_table x f m)
+    = h.0 ∙ ap (λ (u : ℕ × ℕ). u.0) (tell_given (λ (c : Check). answer_by c (ended x verdicts m)) own call (λ w. tells_report (whole.told w)) (λ w. refl) (λ z. ended_no_number x verdicts m)) in (
+      enters_by (λ (c : Check). answer_by c (ended x verdicts m)) own call tells_report whole.told (λ w. refl) (λ z. ended_no_number x verdicts m) (room_table rounds.report_size room) (round_table x f m)
           (room_own rounds.report_size room) (round_given x f m) r h.0,
       (h.1.0, kept_by own call (λ (n : Machine). n.responses) (after_ended x f verdicts m) m r number_is s.1.0.now h.1.1),
     )
@@ -462,12 +451,12 @@ start_enters κs a r s h =
     let offered = job_in job in
     let own = jobs.start_own record-held job room in
     let call = start_check m held offered in
-    let done = started.Holds (firstPlace offered) in (
-      enters_by started.Refused done own call tells_started told_started (λ w. refl) (λ z. refl) (start_own_table record-held job jobs.start_size room)
+    let says : Check → Result Job Refusal = λ c. answer_by c (firstPlace offered) in (
+      enters_by says own call tells_started told_started (λ w. refl) (λ z. refl) (start_own_table record-held job jobs.start_size room)
           (start_table m held offered) (start_own record-held job jobs.start_size room) (start_given m held offered) r h.0,
       (
         h.1.0,
-        keeps_by started.Refused done own call (λ w. tells_started (told_started w)) (λ w. refl) (λ z. refl) (λ w. jobs.started_in w job) job (λ w. refl) r h.0
+        keeps_by says own call (λ w. tells_started (told_started w)) (λ w. refl) (λ z. refl) (λ w. jobs.started_in w job) job (λ w. refl) r h.0
             s.1.1.1.1.0.now h.1.1,
       ),
     )
@@ -476,14 +465,14 @@ abbrev tells_stepped : ToldStepped → ℕ × ℕ
 tells_stepped t = (t.refusal, t.also)
 
 -- a step while none is held is not passed
-gave_no_number : (m : Machine) (held : Held) → step_check m held ≡ Passed → tells_stepped (told_stepped (gave m held)) ≡ (0, 0)
+gave_no_number : (m : Machine) (held : Held) → step_check m held ≡ Ok tt → tells_stepped (told_stepped (gave m held)) ≡ (0, 0)
 unfolding step_check
-gave_no_number m (Holds o) z = refl
-gave_no_number m none.Nothing z = absurd (go (machine_check m) z)
+gave_no_number m (Some o) z = refl
+gave_no_number m None z = absurd (go (machine_check m) z)
   where
-    go : (c : Check) → (c else refuse none_held true) ≡ Passed → ⊥
-    go Passed y = some_number none_held (ap (λ (d : Check). (given d).0) y)
-    go (Refused w) y = some_number w (ap (λ (d : Check). (given d).0) y)
+    go : (c : Check) → (c else refuse none_held true) ≡ Ok tt → ⊥
+    go (Ok tt) y = some_number none_held (ap (λ (d : Check). (given d).0) y)
+    go (Err w) y = some_number w (ap (λ (d : Check). (given d).0) y)
 
 -- the machine is that of the command's pulse, and the record that of the job held afterwards
 pub step_enters : (κs : Lfts 4) (a : ArgsD step.signature κs) (r : ResD step.signature κs) (s : AtExit (ended_of 4 step-kinds.ps step-kinds.r) κs)
@@ -505,19 +494,19 @@ step_enters κs a r s h =
     let held = held_in job in
     let own = jobs.step_own job room in
     let call = step_check m held in
-    let done = gave m held in
-    let tell : Stepped → ℕ × ℕ = λ w. tells_stepped (told_stepped w) in (
-      enters_by gives.Refused done own call tells_stepped told_stepped (λ w. refl) (gave_no_number m held) (held_own_table job jobs.step_size room) (steps_table m held)
+    let says : Check → Result Stepped Refusal = λ c. given_by c (gave m held) in
+    let tell : Result Stepped Refusal → ℕ × ℕ = λ w. tells_stepped (told_stepped w) in (
+      enters_by says own call tells_stepped told_stepped (λ w. refl) (gave_no_number m held) (held_own_table job jobs.step_size room) (steps_table m held)
           (held_own job jobs.step_size room) (step_given m held) r h.0,
       (
         h.1.0,
         (
-          keeps_by gives.Refused done own call tell (λ w. refl) (gave_no_number m held) (λ w. (machine_after w m).words) m.words (λ w. refl) r h.0
+          keeps_by says own call tell (λ w. refl) (gave_no_number m held) (λ w. (machine_after w m).words) m.words (λ w. refl) r h.0
               s.0.now h.1.1.0,
           (
-            keeps_by gives.Refused done own call tell (λ w. refl) (gave_no_number m held) (λ w. (machine_after w m).responses) m.responses (λ w. refl) r h.0
+            keeps_by says own call tell (λ w. refl) (gave_no_number m held) (λ w. (machine_after w m).responses) m.responses (λ w. refl) r h.0
                 s.1.0.now h.1.1.1.0,
-            keeps_by gives.Refused done own call tell (λ w. refl) (gave_no_number m held) (λ w. jobs.stepped_in w job) job (λ w. refl) r h.0
+            keeps_by says own call tell (λ w. refl) (gave_no_number m held) (λ w. jobs.stepped_in w job) job (λ w. refl) r h.0
                 s.1.1.1.0.now h.1.1.1.1,
           ),
         ),
@@ -542,7 +531,7 @@ total_enters κs a r s h =
     let job = a.1.1.1.0.now in
     let room = length a.1.1.1.1.0.now in
     let held = held_in job in (
-      enters_by tally.Refused (tally.Pulses (held_pulses m held)) (jobs.total_own job room) (total_check m held) tells_total totals.told (λ w. refl) (λ z. refl)
+      enters_by (λ (c : Check). answer_by c (held_pulses m held)) (jobs.total_own job room) (total_check m held) tells_total totals.told (λ w. refl) (λ z. refl)
           (held_own_table job jobs.total_size room) (total_table m held) (held_own job jobs.total_size room) (total_given m held) r h.0,
       h.1,
     )
@@ -570,10 +559,10 @@ write_enters κs a r s h =
     let room = length a.1.1.1.1.1.0.now in
     let own = images.write_own job room in
     let call = write_check st (length image) in
-    let done = wrote.Length (length (image_of st)) in
+    let says : Check → Result ℕ Refusal = λ c. answer_by c (length (image_of st)) in
     let number_is : r ≡ (given (lower own call)).0
-    = h.0 ∙ ap (λ (u : ℕ × ℕ). u.0) (tell_given wrote.Refused done own call (λ w. tells_wrote (told_wrote w)) (λ w. refl) (λ z. refl)) in (
-      enters_by wrote.Refused done own call tells_wrote told_wrote (λ w. refl) (λ z. refl) (held_own_table job images.write_size room) (write_table st (length image))
+    = h.0 ∙ ap (λ (u : ℕ × ℕ). u.0) (tell_given says own call (λ w. tells_wrote (told_wrote w)) (λ w. refl) (λ z. refl)) in (
+      enters_by says own call tells_wrote told_wrote (λ w. refl) (λ z. refl) (held_own_table job images.write_size room) (write_table st (length image))
           (held_own job images.write_size room) (write_given st (length image)) r h.0,
       (h.1.0, kept_by own call (λ (xs : List ℕ). xs) (sets image 0 (image_of st)) image r number_is s.1.1.1.1.0.now h.1.1),
     )
@@ -606,10 +595,10 @@ read_enters κs a r s h =
     let own = images.read_own job room in
     let call = read_check image (length ws) (length rs) in
     let st = state_in image in
-    let done = back.Machine st.machine.width (length st.machine.words) st.held in
+    let says : Check → Result Loaded Refusal = λ c. answer_by c (machine_in st) in
     let number_is : r ≡ (given (lower own call)).0
-    = h.0 ∙ ap (λ (u : ℕ × ℕ). u.0) (tell_given back.Refused done own call (λ w. tells_read (told_read w)) (λ w. refl) (λ z. refl)) in (
-      enters_by back.Refused done own call tells_read told_read (λ w. refl) (λ z. refl) (record_table job images.read_size room)
+    = h.0 ∙ ap (λ (u : ℕ × ℕ). u.0) (tell_given says own call (λ w. tells_read (told_read w)) (λ w. refl) (λ z. refl)) in (
+      enters_by says own call tells_read told_read (λ w. refl) (λ z. refl) (record_table job images.read_size room)
           (read_table image (length ws) (length rs)) (record_own job images.read_size room) (read_given image (length ws) (length rs)) r h.0,
       (
         h.1.0,
@@ -617,7 +606,7 @@ read_enters κs a r s h =
           kept_by own call (λ (xs : List ℕ). xs) (sets ws 0 st.machine.words) ws r number_is s.1.0.now h.1.1.0,
           (
             kept_by own call (λ (xs : List ℕ). xs) (sets rs 0 st.machine.responses) rs r number_is s.1.1.0.now h.1.1.1.0,
-            keeps_by back.Refused done own call (λ w. tells_read (told_read w)) (λ w. refl) (λ z. refl) (λ w. images.read_in w job) job (λ w. refl) r h.0
+            keeps_by says own call (λ w. tells_read (told_read w)) (λ w. refl) (λ z. refl) (λ w. images.read_in w job) job (λ w. refl) r h.0
                 s.1.1.1.0.now h.1.1.1.1,
           ),
         ),

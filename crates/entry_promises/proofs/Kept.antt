@@ -1,7 +1,7 @@
 -- What the types say, kept by every entry point that lends words, responses or a record by &mut, as `Kept` in promises says it of the calls. Of a
 -- host in another language `Typed` speaks of the machine in its buffers and of the job that its record stands for (`held_in`). Of a record that is
 -- offered, or that an image's job is read into, and of an image, it is asked that they are bytes (`AreBytes`), as their type says.
-use Prim.Native.Nat.{ℕ, zero, suc, ◌+◌, ◌<◌}
+use Prim.Native.Nat.{ℕ, zero, suc, ◌+◌}
 use mathlib.Core.Path.{◌≡◌, refl, sym, ap, subst, ◌∙◌}
 use mathlib.Core.Bool.{Bool, true, false}
 use mathlib.Core.List.{List, [], ◌++◌, append-nil}
@@ -15,29 +15,26 @@ use contract.Lifetimes.{Lfts}
 use borrow.Fn.World.{ArgsD, ResD}
 use borrow.Fn.Kinds.{ended_of}
 use denote.Triple.Clauses.{AtExit}
+use Rattle.std.specs.Prelude.{Some, None, Result, Ok, Err}
 use Rattle.laws.specs.Bits.{pick}
-use Rattle.machine.specs.declared.Check.{Check}
-use Rattle.machine.specs.declared.Check.TheVariants.{Passed, Refused}
+use Rattle.machine.specs.declared.Refusal.{Refusal}
 use Rattle.machine.specs.Machine.{Machine, machine}
 use Rattle.machine.specs.Panel.{panel_of}
-use Rattle.machine.specs.Refusals.{answer_by}
+use Rattle.machine.specs.Refusals.{Check, answer_by}
 use Rattle.handout.specs.Whole.{verdict_by}
-use Rattle.job_plans.specs.declared.Held.{Held}
-use Rattle.job_plans.specs.declared.Held.TheVariants.{Nothing, Holds}
+use Rattle.job_plans.specs.Fields.{Held}
 use Rattle.job_plans.specs.Places.{first}
 use Rattle.jobs.specs.declared.Stepped.{Stepped}
-use Rattle.jobs.specs.declared.Stepped.TheVariants as gives
-use Rattle.jobs.specs.declared.Started.TheVariants as started
 use Rattle.jobs.specs.Calls.{start_check, start_of, step_of}
 use Rattle.jobs.specs.Runs.{State, state, stepped, held_after}
 use Rattle.image_layout.specs.Sizes.{record_size}
 use Rattle.image_layout.specs.Format.{bytes, value, job_of, held_jobs, AreBytes, AreResponses, JobFits, JobsFit}
 use Rattle.image_layout.specs.Reading.{state_in}
 use Rattle.image_layout.proofs.Format.{job_back, job_fits}
-use Rattle.image.specs.declared.Read.TheVariants as back
 use Rattle.image.specs.Calls.{read_check, read_of, ToldRead, told_read}
 use Rattle.hosts.specs.Images.{Typed}
 use Rattle.hosts.proofs.Typed.{first_fits, stepped_typed}
+use Rattle.promises.proofs.Calls.{machine_in}
 use Rattle.promises.proofs.Kept.{Stays, a_pulse, an_answer, a_round, an_image_read}
 use Rattle.entry_forms.specs.Numbers.{lines_of, tell_in}
 use Rattle.entry_forms.specs.Records.{job_in, held_in, record_of}
@@ -91,7 +88,7 @@ held_fits : (bs : List ℕ) → (length bs ≡ record_size → JobFits (job_of b
 unfolding Fits
 held_fits bs f = go (eqb (length bs) record_size) refl
   where
-    go : (b : Bool) → eqb (length bs) record_size ≡ b → JobsFit (held_jobs (pick b (Holds (job_of bs)) Nothing))
+    go : (b : Bool) → eqb (length bs) record_size ≡ b → JobsFit (held_jobs (pick b (Some (job_of bs)) None))
     go true e = (f (eqb-true (length bs) record_size e), tt)
     go false e = tt
 
@@ -119,8 +116,8 @@ zeros_fit = (omega arith, omega arith, omega arith)
 
 record_fits : (h : Held) → Fits h → JobFits (job_of (record_of h))
 unfolding Fits
-record_fits Nothing f = zeros_fit
-record_fits (Holds o) f = subst JobFits (sym (job_back o f.0)) f.0
+record_fits None f = zeros_fit
+record_fits (Some o) f = subst JobFits (sym (job_back o f.0)) f.0
 
 kept_in : (h : Held) (d : List ℕ) → Fits h → Fits (held_in d) → Fits (held_in (tell_in (record_of h) d))
 kept_in h d f g = go (ltb (length d) (length (record_of h)))
@@ -179,9 +176,9 @@ start_keeps κs a r s p u t =
       job = still (λ (bs : List ℕ). Fits (held_in bs)) r job _ _ (start_enters κs a r s p).1.1 fit (go job u (start_check m (held_in a.1.1.1.0.now) (job_in job)));
     }
   where
-    go : (job : List ℕ) (u : AreBytes job) (c : Check) → Fits (held_in (jobs.started_in (answer_by c started.Refused (started.Holds (first (job_in job)))) job))
-    go job u Passed = kept_in (Holds (first (job_in job))) job (first_fits (job_in job) (offered_fits job u)) (bytes_fit job u)
-    go job u (Refused w) = bytes_fit job u
+    go : (job : List ℕ) (u : AreBytes job) (c : Check) → Fits (held_in (jobs.started_in (answer_by c (first (job_in job))) job))
+    go job u (Ok tt) = kept_in (Some (first (job_in job))) job (first_fits (job_in job) (offered_fits job u)) (bytes_fit job u)
+    go job u (Err w) = bytes_fit job u
 
 -- the record is then that of the job held afterwards, or zeros
 pub step_keeps : (κs : Lfts 4) (a : ArgsD step.signature κs) (r : ResD step.signature κs) (s : AtExit (ended_of 4 step-kinds.ps step-kinds.r) κs)
@@ -198,9 +195,9 @@ step_keeps κs a r s p t =
       job = still (λ (bs : List ℕ). Fits (held_in bs)) r job _ _ e.1.1 t.job (go job (step_of m (held_in job)) t.job then.job);
     }
   where
-    go : (job : List ℕ) (w : Stepped) → Fits (held_in job) → Fits (held_after w (held_in job)) → Fits (held_in (jobs.stepped_in w job))
-    go job (gives.Gave k c h) f g = kept_in h job g f
-    go job (gives.Refused w) f g = f
+    go : (job : List ℕ) (w : Result Stepped Refusal) → Fits (held_in job) → Fits (held_after w (held_in job)) → Fits (held_in (jobs.stepped_in w job))
+    go job (Ok given) f g = kept_in given.held job g f
+    go job (Err w) f g = f
 
 -- accepted: the machine that reading leaves in the first n of each destination, n as it is told, and the record of its job, or zeros
 pub read_keeps : (κs : Lfts 5) (a : ArgsD read.signature κs) (r : ResD read.signature κs) (s : AtExit (ended_of 5 read-kinds.ps read-kinds.r) κs)
@@ -216,10 +213,10 @@ read_keeps κs a r s p z u v =
     let e = read_enters κs a r s p in
     let st = state_in image in
     let check = read_check image (length ws) (length rs) in
-    let passed : check ≡ Passed = (e.0.accepted z).0 in
+    let passed : check ≡ Ok tt = (e.0.accepted z).0 in
     let told : (images.read_told image (length ws) (length rs) job (length a.1.1.1.1.0.now)).words ≡ length st.machine.words
     = ap (λ (x : ToldRead). x.words) (e.0.accepted z).1
-    ∙ ap (λ (c : Check). (told_read (answer_by c back.Refused (back.Machine st.machine.width (length st.machine.words) st.held))).words) passed in
+    ∙ ap (λ (c : Check). (told_read (answer_by c (machine_in st))).words) passed in
     let then = an_image_read image ws rs u passed 0 _ [] told in
     record {
       responses = rw (e.1.1.1.0.accepted z) then.responses;
@@ -227,6 +224,6 @@ read_keeps κs a r s p z u v =
     }
   where
     go : (job : List ℕ) (v : AreBytes job) (st : State) → Fits st.held → (c : Check)
-        → Fits (held_in (images.read_in (answer_by c back.Refused (back.Machine st.machine.width (length st.machine.words) st.held)) job))
-    go job v st f Passed = kept_in st.held job f (bytes_fit job v)
-    go job v st f (Refused w) = bytes_fit job v
+        → Fits (held_in (images.read_in (answer_by c (machine_in st)) job))
+    go job v st f (Ok tt) = kept_in st.held job f (bytes_fit job v)
+    go job v st f (Err w) = bytes_fit job v

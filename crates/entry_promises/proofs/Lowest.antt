@@ -7,12 +7,11 @@ use mathlib.Core.List.{List, [], ◌∷◌}
 use lib.Dec.{ltb, eqb}
 use lib.ListN.{length}
 use borrow.Author.Tests.{eqb-true}
+use Rattle.std.specs.Prelude.{Ok, Err}
 use Rattle.laws.specs.Bits.{pick}
 use Rattle.machine.specs.declared.Refusal.{Refusal}
 use Rattle.machine.specs.declared.Refusal.TheVariants.{Size, PanelTooWide, WrongLines, NoRoom}
-use Rattle.machine.specs.declared.Check.{Check}
-use Rattle.machine.specs.declared.Check.TheVariants.{Passed, Refused}
-use Rattle.machine.specs.Refusals.{◌else◌, refuse, tells, number_of, turn}
+use Rattle.machine.specs.Refusals.{Check, ◌else◌, refuse, tells, number_of, turn}
 use Rattle.machine.proofs.Refusals.{some_number}
 use Rattle.image_layout.specs.Sizes.{record_size}
 use Rattle.panel.specs.Numbered.{takes}
@@ -160,15 +159,15 @@ not_zero r = go (eqb (tells r).0 0) refl
     go false e = refl
 
 pub lower_given : (own call : Check) → given (lower own call) ≡ lowest (given own) (given call)
-lower_given Passed call = refl
-lower_given (Refused r) Passed = rw (not_zero r)
-lower_given (Refused r) (Refused s) = rw (not_zero r, not_zero s) (go (ltb (turn (number_of s)) (turn (number_of r))))
+lower_given (Ok tt) call = refl
+lower_given (Err r) (Ok tt) = rw (not_zero r)
+lower_given (Err r) (Err s) = rw (not_zero r, not_zero s) (go (ltb (turn (number_of s)) (turn (number_of r))))
   where
     go : (b : Bool) → tells (pick b s r) ≡ pick b (tells s) (tells r)
     go true = refl
     go false = refl
 
 -- both are passed where there is no number
-pub both_pass : (own call : Check) → (given (lower own call)).0 ≡ 0 → (own ≡ Passed) × (call ≡ Passed)
-both_pass Passed call h = (refl, passes call h)
-both_pass (Refused r) call h = absurd (some_number (lower_of r call) h)
+pub both_pass : (own call : Check) → (given (lower own call)).0 ≡ 0 → (own ≡ Ok tt) × (call ≡ Ok tt)
+both_pass (Ok tt) call h = (refl, passes call h)
+both_pass (Err r) call h = absurd (some_number (lower_of r call) h)

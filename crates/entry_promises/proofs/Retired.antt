@@ -9,29 +9,20 @@ use contract.Lifetimes.{Lfts}
 use borrow.Fn.World.{ArgsD, ResD}
 use borrow.Fn.Kinds.{ended_of}
 use denote.Triple.Clauses.{AtExit}
-use Rattle.machine.specs.declared.Check.{Check}
-use Rattle.machine.specs.declared.Check.TheVariants.{Passed, Refused}
-use Rattle.machine.specs.declared.Answer.TheVariants as answered
+use Rattle.std.specs.Prelude.{Ok, Err}
 use Rattle.machine.specs.Machine.{Machine}
 use Rattle.machine.specs.Panel.{panel_of}
 use Rattle.machine.specs.Pulse.{count_of, read_of}
-use Rattle.machine.specs.Refusals.{machine_check, answer_by, number_of}
+use Rattle.machine.specs.Refusals.{Check, machine_check, answer_by}
 use Rattle.machine.specs.Resolution.{resolved}
 use Rattle.machine.proofs.Refusals.{not_eight}
-use Rattle.resolver.specs.declared.Resolved.TheVariants as found
-use Rattle.resolver.specs.Answers.{as_resolved}
-use Rattle.rounds.specs.declared.Reply.TheVariants as reply
 use Rattle.rounds.specs.Round.{shown, show_check}
-use Rattle.handout.specs.declared.Report.TheVariants as report
 use Rattle.handout.specs.Whole.{ended}
-use Rattle.job_tally.specs.declared.Total.TheVariants as tally
 use Rattle.job_tally.specs.Totals.{held_pulses, total_check}
 use Rattle.jobs.specs.Runs.{State}
 use Rattle.image_layout.specs.Format.{image_of}
-use Rattle.image.specs.declared.Wrote.TheVariants as wrote
 use Rattle.entry_forms.specs.Numbers.{lower, lines_of, room_check, resolved_size}
 use Rattle.entry_forms.specs.Records.{held_in}
-use Rattle.explainer.specs.declared.Explained.TheVariants as explains
 use Rattle.explainer.specs.Reasons.{reason_at}
 use Rattle.entry_pulses.specs.Entries as pulses
 use Rattle.entry_rounds.specs.Entries as rounds
@@ -81,9 +72,9 @@ use Rattle.entry_images.specs.contracts.dushvaneth_read as read
 use Rattle.entry_images.proofs.dushvaneth_read.Kinds as read-kinds
 use Rattle.entry_images.proofs.dushvaneth_read.Reads as read-reads
 
-number_not_8 : (c : Check) → answer_by c number_of 0 ≡ 8 → ⊥
-number_not_8 Passed e = omega (arith, e)
-number_not_8 (Refused r) e = not_eight r e
+number_not_8 : (c : Check) → pulses.number_in c ≡ 8 → ⊥
+number_not_8 (Ok tt) e = omega (arith, e)
+number_not_8 (Err r) e = not_eight r e
 
 -- ---- what an entry tells, whatever is lent
 
@@ -94,29 +85,29 @@ load_not_8 rs k v e = number_not_8 (pulses.load_check rs k v) e
 pulse_not_8 : (m : Machine) (rs : List ℕ) (l room : ℕ) → (pulses.pulse_told m rs l room).refusal ≡ 8 → ⊥
 unfolding pulses.pulse_told
 pulse_not_8 m rs l room e =
-    answer_not_8 (answer_by (pulses.pulse_entry m rs l room) answered.Refused (answered.Done (count_of m (panel_of rs) (lines_of l)) (read_of m (panel_of rs) (lines_of l)))) e
+    answer_not_8 (answer_by (pulses.pulse_entry m rs l room) (record { count = count_of m (panel_of rs) (lines_of l); read = read_of m (panel_of rs) (lines_of l) })) e
 
 explain_not_8 : (m : Machine) (rs : List ℕ) (w room : ℕ) → (pulses.explained_told m rs w room).refusal ≡ 8 → ⊥
 unfolding pulses.explained_told
-explain_not_8 m rs w room e = explained_not_8 (answer_by (pulses.explain_entry m rs w room) explains.Refused (reason_at m (panel_of rs) (record { 0 = w }))) e
+explain_not_8 m rs w room e = explained_not_8 (answer_by (pulses.explain_entry m rs w room) (reason_at m (panel_of rs) (record { 0 = w }))) e
 
 resolution_not_8 : (key care : ℕ) (m : Machine) (room : ℕ) → (pulses.resolved_told key care m room).refusal ≡ 8 → ⊥
 unfolding pulses.resolved_told
 resolution_not_8 key care m room e =
-    resolved_not_8 (answer_by (lower (room_check resolved_size room) (machine_check m)) found.Refused (as_resolved (resolved key care m))) e
+    resolved_not_8 (answer_by (lower (room_check resolved_size room) (machine_check m)) (resolved key care m)) e
 
 show_not_8 : (x : ℕ) (m : Machine) (room : ℕ) → (rounds.show_told x m room).refusal ≡ 8 → ⊥
 unfolding rounds.show_told
 show_not_8 x m room e =
-    resolved_not_8 (answer_by (lower (room_check resolved_size room) (show_check (rounds.bit_of x) m)) found.Refused (as_resolved (shown (rounds.bit_of x) m))) e
+    resolved_not_8 (answer_by (lower (room_check resolved_size room) (show_check (rounds.bit_of x) m)) (shown (rounds.bit_of x) m)) e
 
 answering_not_8 : (x f k : ℕ) (m : Machine) (room : ℕ) → (rounds.answer_told x f k m room).0 ≡ 8 → ⊥
 unfolding rounds.answer_told
-answering_not_8 x f k m room e = reply_not_8 (answer_by (rounds.answer_entry x f k m room) reply.Refused reply.Taken) e
+answering_not_8 x f k m room e = reply_not_8 (rounds.answer_entry x f k m room) e
 
 round_not_8 : (x f : ℕ) (vs : List ℕ) (m : Machine) (room : ℕ) → (rounds.round_told x f vs m room).refusal ≡ 8 → ⊥
 unfolding rounds.round_told
-round_not_8 x f vs m room e = report_not_8 (answer_by (rounds.round_entry x f m room) report.Refused (ended (rounds.bit_of x) vs m)) e
+round_not_8 x f vs m room e = report_not_8 (answer_by (rounds.round_entry x f m room) (ended (rounds.bit_of x) vs m)) e
 
 start_not_8 : (m : Machine) (held job : List ℕ) (room : ℕ) → (jobs.start_told m held job room).refusal ≡ 8 → ⊥
 unfolding jobs.start_told
@@ -129,11 +120,11 @@ step_not_8 m job room e = stepped_not_8 (jobs.stepped_by (jobs.step_entry m job 
 totalling_not_8 : (m : Machine) (job : List ℕ) (room : ℕ) → (jobs.total_told m job room).refusal ≡ 8 → ⊥
 unfolding jobs.total_told
 totalling_not_8 m job room e =
-    total_not_8 (answer_by (lower (jobs.total_own job room) (total_check m (held_in job))) tally.Refused (tally.Pulses (held_pulses m (held_in job)))) e
+    total_not_8 (answer_by (lower (jobs.total_own job room) (total_check m (held_in job))) (held_pulses m (held_in job))) e
 
 write_not_8 : (s : State) (job image : List ℕ) (room : ℕ) → (images.write_told s job image room).refusal ≡ 8 → ⊥
 unfolding images.write_told
-write_not_8 s job image room e = wrote_not_8 (answer_by (images.write_entry s job image room) wrote.Refused (wrote.Length (length (image_of s)))) e
+write_not_8 s job image room e = wrote_not_8 (answer_by (images.write_entry s job image room) (length (image_of s))) e
 
 reading_not_8 : (image : List ℕ) (words responses : ℕ) (job : List ℕ) (room : ℕ) → (images.read_told image words responses job room).refusal ≡ 8 → ⊥
 unfolding images.read_told
