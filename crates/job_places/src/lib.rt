@@ -135,7 +135,7 @@ fn next_below(o: Job) -> Option<Job>
     Some(moved(o, 1, i, 0))
 }
 
-// The others: "for place i from 0 below the smaller of the widths a and p".
+// The others: "for place i from 0 below the smaller of the widths a and p". An `if` says it plainer than `then_some` or `filter` would.
 fn next_above(o: Job) -> Option<Job>
     requires { o.i < 64 }
     ensures { result ≡ places.next_above o }

@@ -82,6 +82,8 @@ pub fn check_used(n: u32, o: Job) -> Result<(), Refusal>
 
 // ---- the others
 
+// What each kind leaves unused stands in a function of its own, beside the document's words: each has other fields.
+
 // Extremes use no B, P, j and c.
 fn extreme_zero(o: Job) -> bool
     ensures { result ≡ unused_zero_for greatest o }

@@ -57,6 +57,7 @@ fn greatest_pulses(words: &[u64], responses: &[Response], o: Job) -> u64
     1 + u64::from(o.a.width) + u64::from(greatest.count_ones())
 }
 
+// Not one function with the greatest: ones and zeros are counted of it, and every line would ask which.
 fn smallest_pulses(words: &[u64], responses: &[Response], o: Job) -> u64
     requires width_nonzero { (0 < o.a.width) × (o.a.low.0 + o.a.width ≤ 64) }
     ensures { result ≡ 1 + o.a.width + zeros o.a.width (smallest_of (2 ^ o.a.width - 1) (values o words.now responses.now)) }
