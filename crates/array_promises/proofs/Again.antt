@@ -7,11 +7,11 @@ use native.Mathlib.Omega.{arith}
 use lib.Dec.{eqb}
 use lib.ListN.{length, get_or}
 use borrow.Author.Tests.{lt-leb}
+use Rattle.std.specs.Prelude.{None, Ok}
 use Rattle.laws.specs.Bits.{bit, pick}
 use Rattle.laws.specs.Lists.{all}
 use Rattle.laws.proofs.Digits.{bit_lt}
 use Rattle.laws.proofs.Bits.{digit_at, number_lt, number_bit, every_all}
-use Rattle.machine.specs.declared.Found.TheVariants.{Nothing}
 use Rattle.array.specs.declared.Cell.{Cell}
 use Rattle.array.specs.declared.Cell.TheVariants.{Zero, One, X}
 use Rattle.array.specs.declared.Kind.{Kind}
@@ -20,7 +20,6 @@ use Rattle.array.specs.declared.Sink.{Sink}
 use Rattle.array.specs.declared.Sink.TheVariants as sink
 use Rattle.array.specs.declared.Operation.{Operation}
 use Rattle.array.specs.declared.Operation.TheVariants.{Search, Read, Write}
-use Rattle.array.specs.declared.Check.TheVariants.{Passed}
 use Rattle.array.specs.Cells.{is_cell, cell_of, one_of, x_of, reads}
 use Rattle.array.specs.Words.{Word, word, cell_at, words, each, lowest_word}
 use Rattle.array.specs.Selectors.{selected}
@@ -122,7 +121,7 @@ at_every (one ∷ os) (x ∷ xs) [] k hx hs h e = absurd (omega arith)
 at_every (one ∷ os) (x ∷ xs) (s ∷ ss) zero hx hs h e = (first_of e).0
 at_every (one ∷ os) (x ∷ xs) (s ∷ ss) (suc k) hx hs h e = at_every os xs ss k (omega arith) (omega arith) (omega arith) (first_of e).1
 
-none_wide : {n : ℕ} {ws : List Word} (k : ℕ) → Every (Fit n) ws → lowest_word (word_too_wide n) k ws ≡ Nothing
+none_wide : {n : ℕ} {ws : List Word} (k : ℕ) → Every (Fit n) ws → lowest_word (word_too_wide n) k ws ≡ None
 unfolding lowest_word
 none_wide k end = refl
 none_wide {n} k (more {w} p ps) = rw (lt-leb (2 ^ n) w.ones p.ones, lt-leb (2 ^ n) w.xs p.xs) (none_wide (suc k) ps)
@@ -186,14 +185,14 @@ module _ {a : Array} {r : Registers} (s : Sound a r) where
     registers = registers_fit o;
   }
 
-passes : {a : Array} {r : Registers} → Sound a r → call_check a r ≡ Passed
+passes : {a : Array} {r : Registers} → Sound a r → call_check a r ≡ Ok tt
 unfolding call_check
 passes s = rw (s.size, s.width, s.words, s.cells, s.registers)
 
-pub changed : (a : Array) (r : Registers) (o : Operation) → call_check a r ≡ Passed → after a r o ≡ operated a r o
+pub changed : (a : Array) (r : Registers) (o : Operation) → call_check a r ≡ Ok tt → after a r o ≡ operated a r o
 unfolding after
 changed a r o h = rw h
 
-pub again : (a : Array) (r : Registers) (o : Operation) → call_check a r ≡ Passed
-    → call_check (after a r o) (registers_after a.width r o (words_of a)) ≡ Passed
+pub again : (a : Array) (r : Registers) (o : Operation) → call_check a r ≡ Ok tt
+    → call_check (after a r o) (registers_after a.width r o (words_of a)) ≡ Ok tt
 again a r o h = rw (changed a r o h) (passes (sound_after (sound a r h) o))

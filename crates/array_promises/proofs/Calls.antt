@@ -11,29 +11,22 @@ use contract.Lifetimes.{Lfts}
 use borrow.Fn.World.{ArgsD, ResD}
 use borrow.Fn.Kinds.{ended_of}
 use denote.Triple.Clauses.{AtExit}
+use Rattle.std.specs.Prelude.{Option, Some, None, Result, Ok, Err}
 use Rattle.laws.specs.Bits.{pick}
-use Rattle.machine.specs.declared.Found.{Found}
-use Rattle.machine.specs.declared.Found.TheVariants.{At, Nothing}
-use Rattle.machine.specs.Refusals.{bad_width}
+use Rattle.machine.specs.declared.WordSlice.{WordSlice}
+use Rattle.machine.specs.Refusals.{bad_width, ◌else◌, refuse, answer_by, change_by}
 use Rattle.array.specs.declared.Registers.{Registers}
 use Rattle.array.specs.declared.Operation.{Operation}
 use Rattle.array.specs.declared.Refusal.{Refusal}
 use Rattle.array.specs.declared.Refusal.TheVariants.{Size, Width, WordTooWide, NoCell, RegisterTooWide}
-use Rattle.array.specs.declared.Check.{Check}
-use Rattle.array.specs.declared.Check.TheVariants.{Passed, Refused}
 use Rattle.array.specs.declared.Answer.{Answer}
-use Rattle.array.specs.declared.Answer.TheVariants as answer
 use Rattle.array.specs.Operations.{Array, array, words_of, registers_after, count_of, operated}
-use Rattle.array.specs.Refusals.{bad_sizes, first_too_wide, bad_cells, bad_registers, ◌else◌, refuse, refuse_word, call_check, answer_by, answer_of, change_by, after, tells, Told, told}
-use Rattle.array_lines.specs.declared.Asked.{Asked}
-use Rattle.array_lines.specs.declared.Asked.TheVariants.{Is, Bad}
+use Rattle.array.specs.Refusals.{bad_sizes, first_too_wide, bad_cells, bad_registers, Check, refuse_word, call_check, answer_of, after, tells, Told, told}
 use Rattle.entry_forms.specs.Numbers.{tell_in}
-use Rattle.array_entries.specs.declared.Order.{Order}
-use Rattle.array_entries.specs.declared.Order.TheVariants.{Does, Turned}
 use Rattle.array_entries.specs.Numbers.{operation_of, registers_of, answer_size, order_of, refused, turned, told_by, is_three, entry_told, numbers_of, left_by, left, loaded, registers_by, registers_left}
 use Rattle.promises.proofs.Demand1.{Entry, first, stray}
 use Rattle.promises.proofs.Calls.{Leaves}
-use Rattle.array_promises.proofs.Demand1.{operate_table, tells_answer, operate_tells, operate_accepted, operate_unchanged}
+use Rattle.array_promises.proofs.Demand1.{operate_table, an_answer, tells_answer, operate_tells, operate_accepted, operate_unchanged}
 use Rattle.array_cells.specs.contracts.operate as plain
 use Rattle.array_cells.proofs.operate.Kinds as plain-kinds
 use Rattle.array_cells.proofs.operate.Reads as plain-reads
@@ -48,10 +41,10 @@ use Rattle.array_entries.proofs.dushvaneth_array_wide.Kinds as wide-entry-kinds
 use Rattle.array_entries.proofs.dushvaneth_array_wide.Reads as wide-entry-reads
 
 -- an outcome of operation o on array b with registers g: the answer r, and the array n afterwards
-pub record Operates (b : Array) (g : Registers) (o : Operation) (r : Answer) (n : Array) : Type 0 where
+pub record Operates (b : Array) (g : Registers) (o : Operation) (r : Result Answer Refusal) (n : Array) : Type 0 where
   pub answers : r ≡ answer_of b g o
   pub number : tells_answer r ≡ first (operate_table b g)
-  pub accepted : (tells_answer r).0 ≡ 0 → call_check b g ≡ Passed
+  pub accepted : (tells_answer r).0 ≡ 0 → call_check b g ≡ Ok tt
   pub leaves : Leaves (tells_answer r).0 b (after b g o) n
 
 same_width : (b : Array) (g : Registers) (o : Operation) → (after b g o).width ≡ b.width
@@ -59,13 +52,13 @@ unfolding after
 same_width b g o = go (call_check b g)
   where
     go : (c : Check) → (change_by c (operated b g o) b).width ≡ b.width
-    go Passed = refl
-    go (Refused why) = refl
+    go (Ok tt) = refl
+    go (Err why) = refl
 
 whole : (k : ℕ) (os xs ss : List ℕ) (n : Array) → n.width ≡ k → os ≡ n.ones → xs ≡ n.xs → ss ≡ n.selectors → array k os xs ss ≡ n
 whole k os xs ss n e f g h = rw (← e, f, g, h)
 
-an_operation : (b : Array) (g : Registers) (o : Operation) (r : Answer) (os xs ss : List ℕ) → r ≡ answer_of b g o → os ≡ (after b g o).ones
+an_operation : (b : Array) (g : Registers) (o : Operation) (r : Result Answer Refusal) (os xs ss : List ℕ) → r ≡ answer_of b g o → os ≡ (after b g o).ones
     → xs ≡ (after b g o).xs → ss ≡ (after b g o).selectors → Operates b g o r (array b.width os xs ss)
 an_operation b g o r os xs ss e f k h =
     let t : tells_answer r ≡ first (operate_table b g) = ap tells_answer e ∙ operate_tells b g o in
@@ -99,9 +92,9 @@ wide_meets κs a r s h =
 
 -- ---- the same two for callers in other languages, which lend the registers in a buffer `held` and name the operation by a code
 
-abbrev pub is_bad : Asked → Bool
-is_bad (Is o) = false
-is_bad Bad = true
+abbrev pub is_bad : Option Operation → Bool
+is_bad (Some o) = false
+is_bad None = true
 
 -- R1, R2 and M in their buffer
 abbrev pub listed : Registers → List ℕ
@@ -125,7 +118,7 @@ entry_table b held code room =
 
 -- the number returned r; the array n, the registers k and the answer's buffer d afterwards, where it was `answer`
 pub record Entered (b : Array) (held : List ℕ) (code : ℕ) (answer : List ℕ) (r : ℕ) (n : Array) (k d : List ℕ) : Type 0 where
-  pub accepted : (first (entry_table b held code (length answer))).0 ≡ 0 → (o : Operation) → operation_of code ≡ Is o
+  pub accepted : (first (entry_table b held code (length answer))).0 ≡ 0 → (o : Operation) → operation_of code ≡ Some o
       → let new = registers_after b.width (registers_of held) o (words_of b) in
       (r ≡ 0) × (n ≡ after b (registers_of held) o) × (k ≡ listed new)
       × (d ≡ tell_in (0 ∷ 0 ∷ new.r1 ∷ new.r2 ∷ new.m ∷ count_of b (registers_of held) o ∷ []) answer)
@@ -136,24 +129,24 @@ pub record Entered (b : Array) (held : List ℕ) (code : ℕ) (answer : List ℕ
 -- what the table gives, of the four that an entry point looks at in turn
 abbrev gives : Bool → Check → Bool → Bool → ℕ × ℕ
 gives false c bad low = (1, 0)
-gives true (Refused why) bad low = tells why
-gives true Passed true low = (6, 0)
-gives true Passed false true = (10, 0)
-gives true Passed false false = (0, 0)
+gives true (Err why) bad low = tells why
+gives true (Ok tt) true low = (6, 0)
+gives true (Ok tt) false true = (10, 0)
+gives true (Ok tt) false false = (0, 0)
 
-in_order : (t b₁ b₂ : Bool) (f : Found) (b₁₂ b₄ bad low : Bool)
+in_order : (t b₁ b₂ : Bool) (f : Option WordSlice) (b₁₂ b₄ bad low : Bool)
     → gives t (refuse Size b₁ else refuse Width b₂ else refuse_word f else refuse NoCell b₁₂ else refuse RegisterTooWide b₄) bad low
     ≡ first (entry 1 (not t) ∷ entry 1 b₁ ∷ entry 2 b₂ ∷ stray f ∷ entry 12 b₁₂ ∷ entry 4 b₄ ∷ entry 6 bad ∷ entry 10 low ∷ [])
 unfolding first
 in_order false b₁ b₂ f b₁₂ b₄ bad low = refl
 in_order true true b₂ f b₁₂ b₄ bad low = refl
 in_order true false true f b₁₂ b₄ bad low = refl
-in_order true false false (At k) b₁₂ b₄ bad low = refl
-in_order true false false Nothing true b₄ bad low = refl
-in_order true false false Nothing false true bad low = refl
-in_order true false false Nothing false false true low = refl
-in_order true false false Nothing false false false true = refl
-in_order true false false Nothing false false false false = refl
+in_order true false false (Some k) b₁₂ b₄ bad low = refl
+in_order true false false None true b₄ bad low = refl
+in_order true false false None false true bad low = refl
+in_order true false false None false false true low = refl
+in_order true false false None false false false true = refl
+in_order true false false None false false false false = refl
 
 entry_given : (b : Array) (held : List ℕ) (code room : ℕ)
     → gives (is_three held) (call_check b (registers_of held)) (is_bad (operation_of code)) (ltb room answer_size) ≡ first (entry_table b held code room)
@@ -179,48 +172,48 @@ module _ (b : Array) (held : List ℕ) where
   g = registers_of held
 
   -- what is told and left, by what is asked for and whether the registers are three
-  abbrev tells_by : Bool → Order → Told
+  abbrev tells_by : Bool → Result Operation ℕ → Told
   tells_by t q = pick t (told_by b g q) (refused 1)
 
-  abbrev leaves_by : Bool → Order → Array
+  abbrev leaves_by : Bool → Result Operation ℕ → Array
   leaves_by t q = pick t (left_by b g q) b
 
-  abbrev holds_by : Bool → Order → List ℕ
+  abbrev holds_by : Bool → Result Operation ℕ → List ℕ
   holds_by t q = pick t (registers_by b g q held) held
 
-  abbrev Kept : Bool → Order → ℕ × ℕ → Type 0
+  abbrev Kept : Bool → Result Operation ℕ → ℕ × ℕ → Type 0
   Kept t q p = (tells_by t q ≡ zeros p) × (leaves_by t q ≡ b) × (holds_by t q ≡ held)
 
-  own_number : (k : ℕ) (bad low : Bool) → gives true Passed bad low ≡ (k, 0) → Kept true (Turned k) (gives true (call_check b g) bad low)
+  own_number : (k : ℕ) (bad low : Bool) → gives true (Ok tt) bad low ≡ (k, 0) → Kept true (Err k) (gives true (call_check b g) bad low)
   own_number k bad low e = go (call_check b g)
     where
       go : (c : Check) → (turned c k ≡ zeros (gives true c bad low)) × (b ≡ b) × (held ≡ held)
-      go Passed = (ap zeros (sym e), refl, refl)
-      go (Refused why) = (refl, refl, refl)
+      go (Ok tt) = (ap zeros (sym e), refl, refl)
+      go (Err why) = (refl, refl, refl)
 
   named : (o : Operation) (low : Bool) → ((gives true (call_check b g) false low).0 ≡ 0 → ⊥)
-      → Kept true (pick low (Turned 10) (Does o)) (gives true (call_check b g) false low)
+      → Kept true (pick {A = Result Operation ℕ} low (Err 10) (Ok o)) (gives true (call_check b g) false low)
   unfolding answer_of after
   named o true z = own_number 10 false true refl
   named o false z = go (call_check b g) z
     where
       done : Answer
-      done = answer.Done (registers_after b.width g o (words_of b)) (count_of b g o)
+      done = an_answer (registers_after b.width g o (words_of b)) (count_of b g o)
 
       go : (c : Check) → ((gives true c false false).0 ≡ 0 → ⊥)
           → (told (answer_by c done) ≡ zeros (gives true c false false)) × (change_by c (operated b g o) b ≡ b) × (loaded (answer_by c done) held ≡ held)
-      go Passed y = absurd (y refl)
-      go (Refused why) y = (refl, refl, refl)
+      go (Ok tt) y = absurd (y refl)
+      go (Err why) y = (refl, refl, refl)
 
-  turned_down : (q : Asked) (room : ℕ) (t : Bool) → ((gives t (call_check b g) (is_bad q) (ltb room answer_size)).0 ≡ 0 → ⊥)
+  turned_down : (q : Option Operation) (room : ℕ) (t : Bool) → ((gives t (call_check b g) (is_bad q) (ltb room answer_size)).0 ≡ 0 → ⊥)
       → Kept t (order_of q room) (gives t (call_check b g) (is_bad q) (ltb room answer_size))
   turned_down q room false z = (refl, refl, refl)
-  turned_down Bad room true z = own_number 6 true (ltb room answer_size) refl
-  turned_down (Is o) room true z = named o (ltb room answer_size) z
+  turned_down None room true z = own_number 6 true (ltb room answer_size) refl
+  turned_down (Some o) room true z = named o (ltb room answer_size) z
 
   taken : (o : Operation) (t low : Bool) → (gives t (call_check b g) false low).0 ≡ 0
       → let new = registers_after b.width g o (words_of b) in
-      let q = pick low (Turned 10) (Does o) in
+      let q = pick {A = Result Operation ℕ} low (Err 10) (Ok o) in
       (tells_by t q ≡ record { refusal = 0; also = 0; registers = new; count = count_of b g o })
       × (leaves_by t q ≡ after b g o) × (holds_by t q ≡ listed new)
   unfolding answer_of
@@ -228,18 +221,18 @@ module _ (b : Array) (held : List ℕ) where
   taken o true true z = absurd (go (call_check b g) z)
     where
       go : (c : Check) → (gives true c false true).0 ≡ 0 → ⊥
-      go Passed y = omega (arith, y)
-      go (Refused why) y = no_zero why y
+      go (Ok tt) y = omega (arith, y)
+      go (Err why) y = no_zero why y
   taken o true false z = go (call_check b g) z
     where
       new : Registers
       new = registers_after b.width g o (words_of b)
 
       go : (c : Check) → (gives true c false false).0 ≡ 0
-          → (told (answer_by c (answer.Done new (count_of b g o))) ≡ record { refusal = 0; also = 0; registers = new; count = count_of b g o })
-          × (after b g o ≡ after b g o) × (loaded (answer_by c (answer.Done new (count_of b g o))) held ≡ listed new)
-      go Passed y = (refl, refl, refl)
-      go (Refused why) y = absurd (no_zero why y)
+          → (told (answer_by c (an_answer new (count_of b g o))) ≡ record { refusal = 0; also = 0; registers = new; count = count_of b g o })
+          × (after b g o ≡ after b g o) × (loaded (answer_by c (an_answer new (count_of b g o))) held ≡ listed new)
+      go (Ok tt) y = (refl, refl, refl)
+      go (Err why) y = absurd (no_zero why y)
 
 an_entry : (b : Array) (held : List ℕ) (code : ℕ) (answer : List ℕ) (r : ℕ) (d os xs ss k : List ℕ)
     → r ≡ (entry_told b held code (length answer)).refusal
@@ -258,11 +251,11 @@ an_entry b held code answer r d os xs ss k e e₀ e₁ e₂ e₃ e₄ =
       accepted = λ z o q.
           let p =
           taken b held o t low
-          (ap (λ (a : Asked). (gives t (call_check b (registers_of held)) (is_bad a) low).0) (sym q) ∙ ap (λ (x : ℕ × ℕ). x.0) f ∙ z) in
-          let w : tells_by b held t (order_of (operation_of code) room) ≡ _ = ap (λ (a : Asked). tells_by b held t (order_of a room)) q ∙ p.0 in (
+          (ap (λ (a : Option Operation). (gives t (call_check b (registers_of held)) (is_bad a) low).0) (sym q) ∙ ap (λ (x : ℕ × ℕ). x.0) f ∙ z) in
+          let w : tells_by b held t (order_of (operation_of code) room) ≡ _ = ap (λ (a : Option Operation). tells_by b held t (order_of a room)) q ∙ p.0 in (
             e ∙ ap (λ (x : Told). x.refusal) w,
-            n ∙ ap (λ (a : Asked). leaves_by b held t (order_of a room)) q ∙ p.1,
-            e₄ ∙ ap (λ (a : Asked). holds_by b held t (order_of a room)) q ∙ p.2,
+            n ∙ ap (λ (a : Option Operation). leaves_by b held t (order_of a room)) q ∙ p.1,
+            e₄ ∙ ap (λ (a : Option Operation). holds_by b held t (order_of a room)) q ∙ p.2,
             e₀ ∙ ap (λ (x : Told). tell_in (numbers_of x) answer) w,
           );
       refused = λ z.
@@ -271,10 +264,10 @@ an_entry b held code answer r d os xs ss k e e₀ e₁ e₂ e₃ e₄ =
           (e ∙ ap (λ (x : Told). x.refusal) w, n ∙ p.1, e₄ ∙ p.2, e₀ ∙ ap (λ (x : Told). tell_in (numbers_of x) answer) w);
     }
   where
-    wide_as : (t : Bool) (q : Order) → (leaves_by b held t q).width ≡ b.width
+    wide_as : (t : Bool) (q : Result Operation ℕ) → (leaves_by b held t q).width ≡ b.width
     wide_as false q = refl
-    wide_as true (Turned number) = refl
-    wide_as true (Does o) = same_width b (registers_of held) o
+    wide_as true (Err number) = refl
+    wide_as true (Ok o) = same_width b (registers_of held) o
 
 pub plain_entry_meets : (κs : Lfts 5) (a : ArgsD plain_entry.signature κs) (r : ResD plain_entry.signature κs)
     (s : AtExit (ended_of 5 plain-entry-kinds.ps plain-entry-kinds.r) κs)

@@ -6,18 +6,16 @@ use mathlib.Core.Path.{◌≡◌, refl, sym, ap, ◌∙◌}
 use mathlib.Core.Bool.{Bool, true, false}
 use mathlib.Core.List.{List, [], ◌∷◌}
 use lib.ListN.{length}
-use Rattle.machine.specs.declared.Found.{Found}
-use Rattle.machine.specs.declared.Found.TheVariants.{At, Nothing}
-use Rattle.machine.specs.Refusals.{bad_width}
+use Rattle.std.specs.Prelude.{Option, Some, None, Result, Ok, Err}
+use Rattle.machine.specs.declared.WordSlice.{WordSlice}
+use Rattle.machine.specs.Refusals.{bad_width, ◌else◌, refuse, answer_by, change_by}
 use Rattle.array.specs.declared.Registers.{Registers}
 use Rattle.array.specs.declared.Operation.{Operation}
 use Rattle.array.specs.declared.Refusal.TheVariants.{Size, Width, WordTooWide, NoCell, RegisterTooWide}
-use Rattle.array.specs.declared.Check.{Check}
-use Rattle.array.specs.declared.Check.TheVariants.{Passed, Refused}
 use Rattle.array.specs.declared.Answer.{Answer}
-use Rattle.array.specs.declared.Answer.TheVariants as answer
+use Rattle.array.specs.declared.Refusal.{Refusal}
 use Rattle.array.specs.Operations.{Array, words_of, registers_after, count_of, operated}
-use Rattle.array.specs.Refusals.{bad_sizes, first_too_wide, bad_cells, bad_registers, ◌else◌, refuse, refuse_word, call_check, answer_by, answer_of, change_by, after, tells, told}
+use Rattle.array.specs.Refusals.{bad_sizes, first_too_wide, bad_cells, bad_registers, Check, refuse_word, call_check, answer_of, after, tells, told}
 use Rattle.promises.proofs.Demand1.{Entry, first, stray}
 
 -- ---- an operation's table: the numbers it is checked for, in order, each with its condition; 3 also answers the "lowest such word"
@@ -38,19 +36,19 @@ operate_table a r =
 
 -- the number that a check gives and what it also answers, 0 if it is passed
 abbrev pub given : Check → ℕ × ℕ
-given Passed = (0, 0)
-given (Refused r) = tells r
+given (Ok tt) = (0, 0)
+given (Err r) = tells r
 
-in_order : (b₁ b₂ : Bool) (f : Found) (b₁₂ b₄ : Bool)
+in_order : (b₁ b₂ : Bool) (f : Option WordSlice) (b₁₂ b₄ : Bool)
     → given (refuse Size b₁ else refuse Width b₂ else refuse_word f else refuse NoCell b₁₂ else refuse RegisterTooWide b₄)
     ≡ first (entry 1 b₁ ∷ entry 2 b₂ ∷ stray f ∷ entry 12 b₁₂ ∷ entry 4 b₄ ∷ [])
 unfolding first
 in_order true b₂ f b₁₂ b₄ = refl
 in_order false true f b₁₂ b₄ = refl
-in_order false false (At k) b₁₂ b₄ = refl
-in_order false false Nothing true b₄ = refl
-in_order false false Nothing false true = refl
-in_order false false Nothing false false = refl
+in_order false false (Some k) b₁₂ b₄ = refl
+in_order false false None true b₄ = refl
+in_order false false None false true = refl
+in_order false false None false false = refl
 
 pub operate_given : (a : Array) (r : Registers) → given (call_check a r) ≡ first (operate_table a r)
 unfolding call_check
@@ -60,31 +58,35 @@ operate_given a r =
 
 -- ---- the whole answer: that number and that word and "other answer fields are 0", or 0 and 0 with the registers and the count
 
-abbrev pub tells_answer : Answer → ℕ × ℕ
+abbrev pub tells_answer : Result Answer Refusal → ℕ × ℕ
 tells_answer t = ((told t).refusal, (told t).also)
 
-by_check : (c : Check) (r : Registers) (k : ℕ) → tells_answer (answer_by c (answer.Done r k)) ≡ given c
-by_check Passed r k = refl
-by_check (Refused why) r k = refl
+-- an answer of these registers and this count
+abbrev pub an_answer : Registers → ℕ → Answer
+an_answer r k = record { registers = r; count = k }
+
+by_check : (c : Check) (r : Registers) (k : ℕ) → tells_answer (answer_by c (an_answer r k)) ≡ given c
+by_check (Ok tt) r k = refl
+by_check (Err why) r k = refl
 
 pub operate_tells : (a : Array) (r : Registers) (o : Operation) → tells_answer (answer_of a r o) ≡ first (operate_table a r)
 unfolding answer_of
 operate_tells a r o = by_check (call_check a r) _ _ ∙ operate_given a r
 
 -- an operation is accepted exactly if no condition holds
-passes : (c : Check) → (given c).0 ≡ 0 → c ≡ Passed
-passes Passed h = refl
-passes (Refused Size) h = cc
-passes (Refused Width) h = cc
-passes (Refused (WordTooWide k)) h = cc
-passes (Refused NoCell) h = cc
-passes (Refused RegisterTooWide) h = cc
+passes : (c : Check) → (given c).0 ≡ 0 → c ≡ Ok tt
+passes (Ok tt) h = refl
+passes (Err Size) h = cc
+passes (Err Width) h = cc
+passes (Err (WordTooWide k)) h = cc
+passes (Err NoCell) h = cc
+passes (Err RegisterTooWide) h = cc
 
-pub operate_accepted : (a : Array) (r : Registers) → (first (operate_table a r)).0 ≡ 0 → call_check a r ≡ Passed
+pub operate_accepted : (a : Array) (r : Registers) → (first (operate_table a r)).0 ≡ 0 → call_check a r ≡ Ok tt
 operate_accepted a r h = passes (call_check a r) (ap (λ (x : ℕ × ℕ). x.0) (operate_given a r) ∙ h)
 
 -- and that it was can be seen from the answer
-pub told_accepted : (a : Array) (r : Registers) (o : Operation) → (told (answer_of a r o)).refusal ≡ 0 → call_check a r ≡ Passed
+pub told_accepted : (a : Array) (r : Registers) (o : Operation) → (told (answer_of a r o)).refusal ≡ 0 → call_check a r ≡ Ok tt
 told_accepted a r o h = operate_accepted a r (ap (λ (x : ℕ × ℕ). x.0) (sym (operate_tells a r o)) ∙ h)
 
 pub operate_done : (a : Array) (r : Registers) (o : Operation) → (first (operate_table a r)).0 ≡ 0
@@ -93,9 +95,9 @@ unfolding answer_of
 operate_done a r o h = rw (operate_accepted a r h)
 
 others_0 : (c : Check) (r : Registers) (k : ℕ) → ((given c).0 ≡ 0 → ⊥)
-    → told (answer_by c (answer.Done r k)) ≡ record { refusal = (given c).0; also = (given c).1; registers = record { r1 = 0; r2 = 0; m = 0 }; count = 0 }
-others_0 Passed r k h = absurd (h refl)
-others_0 (Refused why) r k h = refl
+    → told (answer_by c (an_answer r k)) ≡ record { refusal = (given c).0; also = (given c).1; registers = record { r1 = 0; r2 = 0; m = 0 }; count = 0 }
+others_0 (Ok tt) r k h = absurd (h refl)
+others_0 (Err why) r k h = refl
 
 pub operate_refused : (a : Array) (r : Registers) (o : Operation) → ((first (operate_table a r)).0 ≡ 0 → ⊥)
     → told (answer_of a r o)
@@ -106,8 +108,8 @@ operate_refused a r o h = rw (← operate_given a r) (others_0 (call_check a r) 
 -- ---- "nothing lent changes"
 
 kept : (c : Check) (new old : Array) → ((given c).0 ≡ 0 → ⊥) → change_by c new old ≡ old
-kept Passed new old h = absurd (h refl)
-kept (Refused why) new old h = refl
+kept (Ok tt) new old h = absurd (h refl)
+kept (Err why) new old h = refl
 
 pub operate_unchanged : (a : Array) (r : Registers) (o : Operation) → ((first (operate_table a r)).0 ≡ 0 → ⊥) → after a r o ≡ a
 unfolding after

@@ -13,6 +13,8 @@ use borrow.Fn.World.{ArgsD, ResD}
 use borrow.Fn.Kinds.{ended_of}
 use denote.Triple.Clauses.{AtExit}
 use borrow.Author.Tests.{ne_eqb}
+use Rattle.std.specs.Prelude.{Ok}
+use Rattle.array.proofs.Calls.{answered_by}
 use Rattle.laws.specs.Bits.{bit, pick, digit, under}
 use Rattle.laws.proofs.Digits.{bit_lt}
 use Rattle.laws.proofs.Bits.{digit_at, number_bit, every_at}
@@ -32,8 +34,6 @@ use Rattle.array.specs.declared.Sink.{Sink}
 use Rattle.array.specs.declared.Sink.TheVariants as sink
 use Rattle.array.specs.declared.Operation.{Operation}
 use Rattle.array.specs.declared.Operation.TheVariants.{Search, Read, Write}
-use Rattle.array.specs.declared.Check.TheVariants.{Passed}
-use Rattle.array.specs.declared.Answer.TheVariants.{Done}
 use Rattle.array.specs.Cells.{is_cell, written}
 use Rattle.array.specs.Words.{Word, word, cell_at, each}
 use Rattle.array.specs.Selectors.{place, latch, selected, wants, combined, put, marked}
@@ -83,9 +83,9 @@ module _ (wanted : Wanted) (set : Latches) (combine : Combine) (agree : Bool) (b
 
 -- ---- an operation that is accepted
 
-module _ (a : Array) (r : Registers) (accepted : call_check a r ≡ Passed) where
+module _ (a : Array) (r : Registers) (accepted : call_check a r ≡ Ok tt) where
   -- the answer is the registers after it and the count
-  pub answered : (o : Operation) → answer_of a r o ≡ Done (registers_of a r o) (count_of a r o)
+  pub answered : (o : Operation) → answer_of a r o ≡ answered_by (registers_of a r o) (count_of a r o)
   unfolding answer_of
   answered o = rw accepted
 
@@ -127,7 +127,7 @@ module _ (a : Array) (r : Registers) (accepted : call_check a r ≡ Passed) wher
       ∙ every_at a.width _ (fits_after (sound a r accepted) o k h).cells i l
 
   -- and the array is accepted again with the registers answered
-  pub accepted_again : (o : Operation) → call_check (after a r o) (registers_of a r o) ≡ Passed
+  pub accepted_again : (o : Operation) → call_check (after a r o) (registers_of a r o) ≡ Ok tt
   accepted_again o = again a r o accepted
 
   -- ---- "which a search replaces, ANDs or ORs with the words that agree, or with those that don't"

@@ -10,6 +10,7 @@ use native.Mathlib.Omega.{arith}
 use lib.Dec.{eqb}
 use lib.ListN.{length, get_or}
 use borrow.Author.Tests.{eq-eqb}
+use Rattle.std.specs.Prelude.{Ok}
 use Rattle.laws.specs.Bits.{bit, number, every}
 use Rattle.laws.specs.Lists.{all}
 use Rattle.laws.proofs.Digits.{Bit, off, on, bit_lt}
@@ -28,7 +29,6 @@ use Rattle.array.specs.declared.Latches.{Latches}
 use Rattle.array.specs.declared.Wanted.{Wanted}
 use Rattle.array.specs.declared.Combine.{Combine}
 use Rattle.array.specs.declared.Operation.TheVariants.{Search}
-use Rattle.array.specs.declared.Check.TheVariants.{Passed}
 use Rattle.array.specs.Cells.{cell_of, argument, mismatch}
 use Rattle.array.specs.Words.{Word, cell_at}
 use Rattle.array.specs.Selectors.{latch, wants, combined}
@@ -185,7 +185,7 @@ exact_search_of_all n p w r e c h =
 
 -- so of an array: the word's latch, after any search, by whether the exact search matches the word: the words that agree or those that don't, put in
 -- place of the set, ANDed or ORed with it. The exact search has SC1 and SC3 0, or 5 would be given.
-pub exact_latch : (a : Array) (r : Registers) → call_check a r ≡ Passed
+pub exact_latch : (a : Array) (r : Registers) → call_check a r ≡ Ok tt
     → (d : Source) (mask : Mask) (wanted : Wanted) (set : Latches) (combine : Combine) (p : Panel)
     → p.comp ≡ data_of r d → p.sc1 ≡ 0 → p.sc2 ≡ mask_of a.width r mask → p.sc3 ≡ 0 → p.care ≡ 0
     → (k response : ℕ) → k < length a.ones → NoX a.width (word_at a k)

@@ -1,9 +1,9 @@
 -- Document 02, request a: "Where a word has no X, its search is the exact search under the same mask", of the calls: an array's search that was
 -- accepted, and the machine's pulse on the array's plane of ones, with any responses. Both machines' contracts are cited as their own sources state
 -- them: `Post` of the call, of its arguments, its answer and what stands behind the lent references at exit.
-use Prim.Native.Nat.{ℕ, ◌-◌, ◌^◌, ◌<◌}
+use Prim.Native.Nat.{ℕ, ◌^◌, ◌<◌}
 use mathlib.Core.Path.{◌≡◌, refl, sym, ap, ◌∙◌}
-use mathlib.Core.Bool.{Bool, true, false, not, ◌&&◌}
+use mathlib.Core.Bool.{true, false}
 use mathlib.Core.List.{List, [], ◌∷◌}
 use native.Mathlib.Omega.{arith}
 use lib.Dec.{eqb}
@@ -14,13 +14,14 @@ use borrow.Fn.World.{ArgsD, ResD}
 use borrow.Fn.Kinds.{ended_of}
 use denote.Triple.Clauses.{AtExit}
 use borrow.Author.Tests.{lt-leb}
+use Rattle.std.specs.Prelude.{Result, Ok}
 use Rattle.laws.specs.Bits.{bit, digit}
 use Rattle.laws.proofs.Digits.{Bit, off, on}
 use Rattle.laws.proofs.Bits.{digit_at}
 use Rattle.machine.specs.declared.Panel.{Panel}
 use Rattle.machine.specs.declared.Lines.{Lines}
-use Rattle.machine.specs.declared.Check.TheVariants as check
 use Rattle.machine.specs.declared.Answer as base-answer
+use Rattle.machine.specs.declared.Refusal as base-refusal
 use Rattle.machine.specs.Machine.{Machine, machine, response_bits, syllables}
 use Rattle.machine.specs.Panel.{panel_of}
 use Rattle.machine.specs.Refusals as base
@@ -38,10 +39,9 @@ use Rattle.array.specs.declared.Wanted.TheVariants.{Agree}
 use Rattle.array.specs.declared.Combine.TheVariants.{Replace}
 use Rattle.array.specs.declared.Operation.{Operation}
 use Rattle.array.specs.declared.Operation.TheVariants.{Search}
-use Rattle.array.specs.declared.Check.TheVariants.{Passed}
 use Rattle.array.specs.declared.Answer.{Answer}
-use Rattle.array.specs.Words.{word}
-use Rattle.array.specs.Selectors.{place, latch}
+use Rattle.array.specs.declared.Refusal.{Refusal}
+use Rattle.array.specs.Selectors.{place}
 use Rattle.array.specs.Registers.{data_of, mask_of}
 use Rattle.array.specs.Operations.{Array, array}
 use Rattle.array.specs.Refusals.{bad_sizes, call_check, answer_of, after, told}
@@ -53,14 +53,10 @@ use Rattle.array_promises.proofs.Exact.{NoX, exact_latch}
 use Rattle.array_cells.specs.contracts.operate as plain
 use Rattle.array_cells.proofs.operate.Kinds as plain-kinds
 use Rattle.array_cells.proofs.operate.Reads as plain-reads
-use Rattle.array_wide.specs.contracts.operate as wide
-use Rattle.array_wide.proofs.operate.Kinds as wide-kinds
 use Rattle.array_wide.proofs.operate.Reads as wide-reads
 use Rattle.cells.specs.contracts.pulse as plain-pulse
 use Rattle.cells.proofs.pulse.Kinds as plain-pulse-kinds
 use Rattle.cells.proofs.pulse.Reads as plain-pulse-reads
-use Rattle.wide.specs.contracts.pulse as wide-pulse
-use Rattle.wide.proofs.pulse.Kinds as wide-pulse-kinds
 use Rattle.wide.proofs.pulse.Reads as wide-pulse-reads
 
 -- the exact search under the same mask, as the machine's panel has it: COMP is the data, SC1 0, SC2 the mask, SC3 0, care 0; SDR, MOR, key and address
@@ -74,7 +70,7 @@ search_line = record { search = true; read = false; write = false; add = false; 
 
 -- ---- that pulse is accepted
 
-module _ (a : Array) (r : Registers) (accepted : call_check a r ≡ Passed) (d : Source) (k : Mask) (responses : List ℕ)
+module _ (a : Array) (r : Registers) (accepted : call_check a r ≡ Ok tt) (d : Source) (k : Mask) (responses : List ℕ)
     (same : length responses ≡ length a.ones) (target : ℕ) where
   s : Sound a r
   s = sound a r accepted
@@ -92,7 +88,7 @@ module _ (a : Array) (r : Registers) (accepted : call_check a r ≡ Passed) (d :
   unfolding bad_sizes
   size = rw (same ∙ sym (same_xs s)) (or_left (base.bad_size (length a.ones) (length a.xs)) _ s.size)
 
-  pub exact_accepted : pulse_check (machine a.width a.ones responses) (exact_panel a r d k target) search_line ≡ check.Passed
+  pub exact_accepted : pulse_check (machine a.width a.ones responses) (exact_panel a r d k target) search_line ≡ Ok tt
   unfolding pulse_check machine_check bad_panel bad_codes bad_lines bad_address
   exact_accepted =
       rw (
@@ -141,24 +137,24 @@ abbrev pub raised : (κs : Lfts 2) → ArgsD plain-pulse.signature κs → Lines
 raised κs y = y.1.1.1.1.0
 
 -- the pulse was accepted, and in every word without X the selector bit that the search left is each target bit that the pulse left
-abbrev pub SameBits : Array → Latches → ℕ → List ℕ → base-answer.Answer → List ℕ → Type 0
+abbrev pub SameBits : Array → Latches → ℕ → List ℕ → Result base-answer.Answer base-refusal.Refusal → List ℕ → Type 0
 SameBits a set target selectors u responses =
     ((base.told u).refusal ≡ 0)
     × ((j i : ℕ) → j < length a.ones → i < response_bits → bit target i ≡ 1 → NoX a.width (word_at a j)
     → bit (get_or selectors j 0) (place set) ≡ bit (get_or responses j 0) i)
 
-done : (m : Machine) (p : Panel) (l : Lines) → pulse_check m p l ≡ check.Passed → (base.told (base.answer_of m p l)).refusal ≡ 0
+done : (m : Machine) (p : Panel) (l : Lines) → pulse_check m p l ≡ Ok tt → (base.told (base.answer_of m p l)).refusal ≡ 0
 unfolding base.answer_of
 done m p l h = rw h
 
 module _ (a : Array) (r : Registers) (d : Source) (k : Mask) (set : Latches) (target : ℕ) (responses : List ℕ) where
-  same_bits : (o : Operation) → o ≡ Search d k Agree set Replace → (t : Answer) → t ≡ answer_of a r o → (told t).refusal ≡ 0
+  same_bits : (o : Operation) → o ≡ Search d k Agree set Replace → (t : Result Answer Refusal) → t ≡ answer_of a r o → (told t).refusal ≡ 0
       → (selectors : List ℕ) → selectors ≡ (after a r o).selectors → length responses ≡ length a.ones
       → (m : Machine) → m ≡ machine a.width a.ones responses → (p : Panel) → p ≡ exact_panel a r d k target → (l : Lines) → l ≡ search_line
-      → (u : base-answer.Answer) → u ≡ base.answer_of m p l → (marks : List ℕ) → marks ≡ (base.after m p l).responses
+      → (u : Result base-answer.Answer base-refusal.Refusal) → u ≡ base.answer_of m p l → (marks : List ℕ) → marks ≡ (base.after m p l).responses
       → SameBits a set target selectors u marks
   same_bits o eo t et h selectors es same m em p ep l el u eu marks er =
-      let accepted : call_check a r ≡ Passed = told_accepted a r o (ap (λ (x : Answer). (told x).refusal) (sym et) ∙ h) in (
+      let accepted : call_check a r ≡ Ok tt = told_accepted a r o (ap (λ (x : Result Answer Refusal). (told x).refusal) (sym et) ∙ h) in (
         rw (eu, em, ep, el) (done (machine a.width a.ones responses) (exact_panel a r d k target) search_line (exact_accepted a r accepted d k responses same target)),
         λ j i hj hi b x. rw (es, eo, er, em, ep, el) (exact_bit a r accepted d k responses same target set j i hj hi b x),
       )
