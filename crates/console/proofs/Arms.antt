@@ -1,14 +1,11 @@
 -- A table of commands asked for the place of a name: the entry there, or past its end what stands for no name.
-use Prim.Native.Nat.{ℕ, suc, ◌-◌, ◌<◌, ◌≤◌}
+use Prim.Native.Nat.{ℕ, ◌-◌, ◌<◌, ◌≤◌}
 use Prim.Native.String.{String}
 use native.Mathlib.Omega.{arith}
-use mathlib.Core.Path.{◌≡◌, refl, ◌∙◌}
-use mathlib.Core.Bool.{true, false, ◌&&◌}
-use mathlib.Core.List.{List, ◌++◌}
-use lib.Dec.{leb}
+use mathlib.Core.Path.{◌≡◌, refl}
+use mathlib.Core.List.{List}
 use lib.ListN.{length, get_or, take, drop, length-drop, get_or-eq_default}
 use lib.Seq.{take_all}
-use borrow.Author.Tests.{le-leb, lt-leb}
 use Rattle.text.specs.Ascii.{ascii}
 use Rattle.text.specs.declared.Place.{Place}
 use Rattle.text.specs.Words.{word_at, words_of, place_of}
@@ -17,7 +14,7 @@ use Rattle.console_commands.specs.declared.Turn.{Turn}
 use Rattle.console_commands.specs.declared.Outcome.{Outcome}
 use Rattle.console_commands.specs.declared.Outcome.TheVariants as outcome
 use Rattle.console_commands.specs.Ends.{bad_line}
-use Rattle.console.specs.Obeying.{Desk, desk, Looked, Marked, After, among, said, unmarked, unchanged, only, behind, own, lookings, looked, markings, marked, changes, changed, makings, named, on_machine, obeyed}
+use Rattle.console.specs.Obeying.{Desk, Looked, Marked, After, among, said, unmarked, unchanged, only, lookings, looked, markings, marked, changes, changed, makings, named, on_machine, obeyed}
 
 -- ---- any table
 
@@ -28,13 +25,6 @@ at_place names name does other k n e f = rw (← e, f) refl
 past_end : {A : Type 0} (names : String) (name : List ℕ) (does : List A) (other : A) (k : ℕ) → k ≡ place_of name (words_of (ascii names)) →
     length does ≤ k → among names name does other ≡ other
 past_end names name does other k e h = rw (← e) (get_or-eq_default does other h)
-
--- a place that is not 0, and one that is none of those below n and not n either
-pub not_zero : (k : ℕ) → (k ≡ 0 → ⊥) → 1 ≤ k
-not_zero k f = omega arith
-
-pub next_up : (n k : ℕ) → n ≤ k → (k ≡ n → ⊥) → suc n ≤ k
-next_up n k h f = omega arith
 
 -- ---- what a command leaves, part by part
 
@@ -133,47 +123,6 @@ module _ (d : Desk) (name : List ℕ) (args : List (List ℕ)) (k : ℕ) where
         responses ≡ (on_machine d name args).responses → bytes ≡ (on_machine d name args).bytes →
         (t ≡ (named d name args).turn) × ((words ≡ (named d name args).words) × ((responses ≡ (named d name args).responses) × (bytes ≡ (named d name args).bytes)))
     name_other h = change_parts _ _ (named_none h)
-
--- ---- the machine's own entries
-
-module _ (d : Desk) (name : List ℕ) (args : List (List ℕ)) where
-  outside : (leb d.board.words (length d.words) && leb d.board.responses (length d.responses)) ≡ false → on_machine d name args ≡ only d (bad_line d.board)
-  unfolding on_machine
-  outside e = rw e refl
-
-  inside : (leb d.board.words (length d.words) && leb d.board.responses (length d.responses)) ≡ true → on_machine d name args ≡ behind d (changed (own d) name args)
-  unfolding on_machine
-  inside e = rw e refl
-
-  bad : (leb d.board.words (length d.words) && leb d.board.responses (length d.responses)) ≡ false → (t : Turn) →
-      t ≡ bad_line d.board → (t ≡ (on_machine d name args).turn) × ((d.words ≡ (on_machine d name args).words)
-      × ((d.responses ≡ (on_machine d name args).responses) × (d.bytes ≡ (on_machine d name args).bytes)))
-  bad e t f = change_parts _ _ (outside e) _ _ _ _ f refl refl refl
-
-  pub few_words : length d.words < d.board.words → (t : Turn) →
-      t ≡ bad_line d.board → (t ≡ (on_machine d name args).turn) × ((d.words ≡ (on_machine d name args).words)
-      × ((d.responses ≡ (on_machine d name args).responses) × (d.bytes ≡ (on_machine d name args).bytes)))
-  few_words h = bad (rw (lt-leb d.board.words (length d.words) h) refl)
-
-  pub few_responses : d.board.words ≤ length d.words → length d.responses < d.board.responses → (t : Turn) →
-      t ≡ bad_line d.board → (t ≡ (on_machine d name args).turn) × ((d.words ≡ (on_machine d name args).words)
-      × ((d.responses ≡ (on_machine d name args).responses) × (d.bytes ≡ (on_machine d name args).bytes)))
-  few_responses i h = bad (rw (le-leb d.board.words (length d.words) i, lt-leb d.board.responses (length d.responses) h) refl)
-
-  -- a part is lent from 0 on, so its length is n - 0
-  pub machine_done : d.board.words ≤ length d.words → d.board.responses ≤ length d.responses →
-      (t : Turn) (words responses bytes : List ℕ) →
-      let n = d.board.words - 0 in
-      let m = d.board.responses - 0 in
-      let a = changed (desk d.board (take n d.words) (take m d.responses) d.bytes) name args in
-      t ≡ a.turn → words ≡ a.words → responses ≡ a.responses → bytes ≡ a.bytes →
-      (t ≡ (on_machine d name args).turn) × ((words ++ drop n d.words ≡ (on_machine d name args).words)
-      × ((responses ++ drop m d.responses ≡ (on_machine d name args).responses) × (bytes ≡ (on_machine d name args).bytes)))
-  machine_done i j t words responses bytes e f g h =
-      let n : d.board.words - 0 ≡ d.board.words = omega arith in
-      let m : d.board.responses - 0 ≡ d.board.responses = omega arith in
-      change_parts _ _ (inside (rw (le-leb d.board.words (length d.words) i, le-leb d.board.responses (length d.responses) j) refl)) _ _ _ _
-      (e ∙ (rw (n, m) refl)) (rw (f, n, m) refl) (rw (g, n, m) refl) (h ∙ (rw (n, m) refl))
 
 -- ---- the name and what follows it
 

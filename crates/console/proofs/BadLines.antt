@@ -7,6 +7,7 @@ use mathlib.Core.Bool.{Bool, true, false, ◌&&◌}
 use mathlib.Core.List.{List, [], ◌∷◌}
 use lib.Dec.{leb, ltb}
 use lib.ListN.{length, get_or, take-append-drop}
+use Rattle.std.specs.Prelude.{Option, Some, None}
 use Rattle.laws.specs.Bits.{pick}
 use Rattle.machine.specs.Machine.{Machine}
 use Rattle.machine.specs.Refusals.{answer_of}
@@ -17,14 +18,11 @@ use Rattle.image.specs.Calls.{read_of}
 use Rattle.text.specs.Ascii.{ascii}
 use Rattle.text.specs.Words.{words_of, place_of}
 use Rattle.text.specs.Rows.{fits, values}
-use Rattle.text.specs.declared.Number.{Number}
-use Rattle.text.specs.declared.Number.TheVariants.{Is, Bad}
 use Rattle.console_commands.specs.declared.Board.{Board}
 use Rattle.console_commands.specs.declared.Outcome.TheVariants as outcome
 use Rattle.console_commands.specs.Ends.{bad_line}
 use Rattle.console_setting.specs.Settings.{register_names, letter_for, loaded, hits}
-use Rattle.console_pulsing.specs.declared.Named.{Named}
-use Rattle.console_pulsing.specs.declared.Named.TheVariants as lines
+use Rattle.machine.specs.declared.Lines.{Lines}
 use Rattle.console_pulsing.specs.Lines.{lines_of}
 use Rattle.console_pulsing.specs.Calls.{bit_in, word_in, pulse_outcome, pulse_after}
 use Rattle.console_working.specs.Jobs.{offered}
@@ -61,10 +59,10 @@ entry p names name does = entry_at p does (place_of name (words_of (ascii names)
 
 -- ---- the commands with more ways than right and wrong
 
-pulse_still : (l : Named) (m : Machine) (p : Panel) (b : Board) → pulse_outcome l m p ≡ outcome.BadLine →
+pulse_still : (l : Option Lines) (m : Machine) (p : Panel) (b : Board) → pulse_outcome l m p ≡ outcome.BadLine →
     (b ≡ b) × ((pulse_after l m p).words ≡ m.words) × ((pulse_after l m p).responses ≡ m.responses)
-pulse_still (lines.Are l) m p b e = let no = told_other (answer_of m p l) e in (refl, cc, cc)
-pulse_still lines.Bad m p b e = (refl, refl, refl)
+pulse_still (Some l) m p b e = let no = told_other (answer_of m p l) e in (refl, cc, cc)
+pulse_still None m p b e = (refl, refl, refl)
 
 load_still : (b : Board) (args : List (List ℕ)) → (loaded b args).outcome ≡ outcome.BadLine → (loaded b args).board ≡ b
 unfolding loaded
@@ -72,12 +70,12 @@ load_still b [] e = refl
 load_still b (name ∷ args) e =
     let k = place_of name register_names in rw (wrong_turn (ltb k 10 && fits (letter_for k) args) _ _ e fine_other) refl
 
-read_still : (b : Board) (n : Number) (image : List ℕ) (fit : Bool) (w r : ℕ) (words responses : List ℕ) →
+read_still : (b : Board) (n : Option ℕ) (image : List ℕ) (fit : Bool) (w r : ℕ) (words responses : List ℕ) →
     (read_turn b n image fit w r).outcome ≡ outcome.BadLine → ((read_turn b n image fit w r).board ≡ b)
     × (read_words n image fit w r words responses ≡ words) × (read_responses n image fit w r words responses ≡ responses)
-read_still b (Is n) image true w r words responses e = let no = taken_other b (read_of image w r) e in (cc, cc, cc)
-read_still b (Is n) image false w r words responses e = (refl, refl, refl)
-read_still b Bad image fit w r words responses e = (refl, refl, refl)
+read_still b (Some n) image true w r words responses e = let no = taken_other b (read_of image w r) e in (cc, cc, cc)
+read_still b (Some n) image false w r words responses e = (refl, refl, refl)
+read_still b None image fit w r words responses e = (refl, refl, refl)
 
 -- ---- the tables
 
@@ -124,16 +122,16 @@ module _ (d : Desk) where
       (s.0, rw s.1 (take-append-drop d.board.words d.words), rw s.2 (take-append-drop d.board.responses d.responses))
   machine_still false name args e = (refl, refl, refl)
 
-  reading_still : (w r : Number) (image : List (List ℕ)) → Still d (reading d (record { words = w; responses = r; image = image }))
-  reading_still (Is w) (Is r) image e = read_still d.board (image_length image (length d.bytes)) _ _ w r d.words d.responses e
-  reading_still (Is w) Bad image e = (refl, refl, refl)
-  reading_still Bad r image e = (refl, refl, refl)
+  reading_still : (w r : Option ℕ) (image : List (List ℕ)) → Still d (reading d (record { words = w; responses = r; image = image }))
+  reading_still (Some w) (Some r) image e = read_still d.board (image_length image (length d.bytes)) _ _ w r d.words d.responses e
+  reading_still (Some w) None image e = (refl, refl, refl)
+  reading_still None r image e = (refl, refl, refl)
 
   makings_still : (args : List (List ℕ)) → Each (Still d) (makings d args)
   makings_still args =
       (λ e. rw (wrong_turn (fits "bn" args) _ _ e fine_other) (refl, refl, refl))
       and (λ e. rw (wrong_turn (fits "n" args) _ _ e fine_other) (refl, refl, refl))
-      and reading_still (Is 1024) (Is 1024) args
+      and reading_still (Some 1024) (Some 1024) args
       and reading_still (fitting args).words (fitting args).responses (fitting args).image
       and tt
 

@@ -2,17 +2,14 @@
 use mathlib.Core.Path.{◌≡◌, refl}
 use mathlib.Core.Bool.{Bool, true, false}
 use Rattle.laws.specs.Bits.{pick}
+use Rattle.std.specs.Prelude.{Result, Ok, Err}
 use Rattle.machine.specs.declared.Answer.{Answer}
-use Rattle.machine.specs.declared.Answer.TheVariants as answer
+use Rattle.machine.specs.declared.Refusal.{Refusal}
+use Rattle.machine.specs.Refusals.{Check}
+use Rattle.job_plans.specs.declared.Job.{Job}
 use Rattle.jobs.specs.Runs.{State}
-use Rattle.jobs.specs.declared.Started.{Started}
-use Rattle.jobs.specs.declared.Started.TheVariants as started
 use Rattle.jobs.specs.declared.Stepped.{Stepped}
-use Rattle.jobs.specs.declared.Stepped.TheVariants as stepped
-use Rattle.rounds.specs.declared.Reply.{Reply}
-use Rattle.rounds.specs.declared.Reply.TheVariants as reply
-use Rattle.image.specs.declared.Read.{Read}
-use Rattle.image.specs.declared.Read.TheVariants as read
+use Rattle.image.specs.declared.Loaded.{Loaded}
 use Rattle.console_commands.specs.declared.Board.{Board}
 use Rattle.console_commands.specs.declared.Turn.{Turn}
 use Rattle.console_commands.specs.declared.Outcome.{Outcome}
@@ -40,26 +37,26 @@ wrong_turn false good bad e f = refl
 pub fine_other : Other outcome.Fine
 fine_other e = cc
 
-pub told_other : (a : Answer) → Other (told a)
-told_other (answer.Done count read) e = cc
-told_other (answer.Refused why) e = cc
+pub told_other : (a : Result Answer Refusal) → Other (told a)
+told_other (Ok done) e = cc
+told_other (Err why) e = cc
 
-pub replied_other : (r : Reply) → Other (replied r)
-replied_other reply.Taken e = cc
-replied_other (reply.Refused why) e = cc
+pub replied_other : (r : Check) → Other (replied r)
+replied_other (Ok u) e = cc
+replied_other (Err why) e = cc
 
-pub begun_other : (b : Board) (s : Started) → Other (begun b s).outcome
-begun_other b (started.Holds job) e = cc
-begun_other b (started.Refused why) e = cc
+pub begun_other : (b : Board) (s : Result Job Refusal) → Other (begun b s).outcome
+begun_other b (Ok job) e = cc
+begun_other b (Err why) e = cc
 
-pub given_other : (b : Board) (s : Stepped) → Other (given b s).outcome
-given_other b (stepped.Gave command count held) e = cc
-given_other b (stepped.Refused why) e = cc
+pub given_other : (b : Board) (s : Result Stepped Refusal) → Other (given b s).outcome
+given_other b (Ok step) e = cc
+given_other b (Err why) e = cc
 
-pub ran_other : (b : Board) (t : Stepped) (s : State) → Other (ran b t s).outcome
-ran_other b (stepped.Gave command count held) s e = cc
-ran_other b (stepped.Refused why) s e = cc
+pub ran_other : (b : Board) (t : Result Stepped Refusal) (s : State) → Other (ran b t s).outcome
+ran_other b (Ok step) s e = cc
+ran_other b (Err why) s e = cc
 
-pub taken_other : (b : Board) (r : Read) → Other (taken b r).outcome
-taken_other b (read.Machine width n held) e = cc
-taken_other b (read.Refused why) e = cc
+pub taken_other : (b : Board) (r : Result Loaded Refusal) → Other (taken b r).outcome
+taken_other b (Ok m) e = cc
+taken_other b (Err why) e = cc

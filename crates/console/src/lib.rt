@@ -6,7 +6,10 @@ ghost use Rattle.text.specs.Words.{words_of};
 ghost use Rattle.console.specs.Obeying as obeying;
 
 use console_commands::{Board, Outcome, Turn};
+use console_pulsing::{Built, Way};
 use machine::Response;
+use rounds::Verdict;
+use text::words;
 
 // One line, on buffers that are as long as any machine of the console needs. `bytes` is room for an image.
 pub fn obey(
@@ -21,22 +24,21 @@ pub fn obey(
     ensures responses_after { responses.new ≡ (obeying.obeyed (obeying.desk board words.old responses.old bytes.old) (words_of line.now)).responses }
     ensures bytes_after { bytes.new ≡ (obeying.obeyed (obeying.desk board words.old responses.old bytes.old) (words_of line.now)).bytes }
 {
-    let word = text::words::next(line, 0);
-    let from = word.from;
-    let to = word.to;
-    if from == to {
+    let word = words::next(line, 0);
+    if word.from == word.to {
         return console_commands::bad_line(board);
     }
-    let end = line.len();
     by_name(
         board,
-        &line[from..to],
-        &line[to..end],
+        &line[word.from..word.to],
+        &line[word.to..],
         words,
         responses,
         bytes,
     )
 }
+
+// ---- by a name's number in a list, here and below: where a match on the names themselves falls through, a proof knows no more than lengths
 
 // The commands that change how long the machine's buffers are.
 fn by_name(
@@ -52,7 +54,7 @@ fn by_name(
     ensures responses_after { responses.new ≡ (obeying.named (obeying.desk board words.old responses.old bytes.old) name.now (words_of rest.now)).responses }
     ensures bytes_after { bytes.new ≡ (obeying.named (obeying.desk board words.old responses.old bytes.old) name.now (words_of rest.now)).bytes }
 {
-    match text::words::which(b"machine lend resume fit", name) {
+    match words::which(b"machine lend resume fit", name) {
         0 => console_setting::make(board, rest, words, responses),
         1 => console_setting::lend(board, rest, responses),
         2 => console_storing::resume(board, rest, words, responses, bytes),
@@ -62,6 +64,7 @@ fn by_name(
 }
 
 // The others are lent just the machine's own entries.
+#[tactic(auto, using(std::proofs::lemmas::Bool::Decides::nat_tests), unfolding(crate::specs::Obeying::on_machine))]
 fn on_machine(
     board: Board,
     name: &[u8],
@@ -77,18 +80,15 @@ fn on_machine(
 {
     let n = board.words;
     let m = board.responses;
-    if words.len() < n {
-        return console_commands::bad_line(board);
-    }
-    if responses.len() < m {
+    if words.len() < n || responses.len() < m {
         return console_commands::bad_line(board);
     }
     change(
         board,
         name,
         rest,
-        &mut words[0..n],
-        &mut responses[0..m],
+        &mut words[..n],
+        &mut responses[..m],
         bytes,
     )
 }
@@ -107,7 +107,7 @@ fn change(
     ensures responses_after { responses.new ≡ (obeying.changed (obeying.desk board words.old responses.old bytes.old) name.now (words_of rest.now)).responses }
     ensures bytes_after { bytes.new ≡ (obeying.changed (obeying.desk board words.old responses.old bytes.old) name.now (words_of rest.now)).bytes }
 {
-    match text::words::which(b"load job drop start step run", name) {
+    match words::which(b"load job drop start step run", name) {
         0 => console_setting::load(board, rest),
         1 => console_setting::write_job(board, rest),
         2 => console_setting::drop_job(board, rest),
@@ -135,13 +135,13 @@ fn mark(
     ensures responses_after { responses.new ≡ (obeying.marked (obeying.desk board words.old responses.old bytes.old) name.now (words_of rest.now)).responses }
     ensures bytes_after { bytes.new ≡ (obeying.marked (obeying.desk board words.old responses.old bytes.old) name.now (words_of rest.now)).bytes }
 {
-    match text::words::which(b"word response pulse cells done faulty", name) {
+    match words::which(b"word response pulse cells done faulty", name) {
         0 => console_setting::write_word(rest, words),
         1 => console_setting::write_response(rest, responses),
-        2 => console_pulsing::pulse(board, rest, words, responses),
-        3 => console_pulsing::cells(board, rest, words, responses),
-        4 => console_pulsing::done(board, rest, words, responses),
-        5 => console_pulsing::faulty(board, rest, words, responses),
+        2 => console_pulsing::pulse(board, Built::WordWide, rest, words, responses),
+        3 => console_pulsing::pulse(board, Built::Plain, rest, words, responses),
+        4 => console_pulsing::answer(board, rest, words, responses, Verdict::Done),
+        5 => console_pulsing::answer(board, rest, words, responses, Verdict::Faulty),
         _ => look(board, name, rest, words, responses, bytes),
     }
 }
@@ -158,14 +158,14 @@ fn look(
     ensures value { result ≡ (obeying.looked (obeying.desk board words.now responses.now bytes.old) name.now (words_of rest.now)).outcome }
     ensures bytes_after { bytes.new ≡ (obeying.looked (obeying.desk board words.now responses.now bytes.old) name.now (words_of rest.now)).bytes }
 {
-    match text::words::which(b"panel resolve tree show total store list room why", name) {
+    match words::which(b"panel resolve tree show total store list room why", name) {
         0 => console_setting::tell_panel(board, rest),
-        1 => console_pulsing::resolve(board, rest, words, responses),
-        2 => console_pulsing::tree(board, rest, words, responses),
+        1 => console_pulsing::resolve(board, Way::Scan, rest, words, responses),
+        2 => console_pulsing::resolve(board, Way::Network, rest, words, responses),
         3 => console_pulsing::show(board, rest, words, responses),
         4 => console_working::total(board, rest, words, responses),
-        5 => console_storing::store(board, rest, words, responses, bytes),
-        6 => console_storing::list(board, rest, words, responses, bytes),
+        5 => console_storing::store(board, rest, words, responses, bytes, false),
+        6 => console_storing::store(board, rest, words, responses, bytes, true),
         7 => console_storing::room(board, rest, words, responses, bytes),
         8 => console_pulsing::why(board, rest, words, responses),
         _ => Outcome::BadLine,

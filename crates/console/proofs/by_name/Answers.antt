@@ -3,7 +3,7 @@ use mathlib.Core.Path.{refl}
 use borrow.Author.Rules.{rules}
 use Rattle.text.specs.Words.{words_of}
 use Rattle.console.specs.Obeying.{desk}
-use Rattle.console.proofs.Arms.{not_zero, next_up, name_arm, name_other}
+use Rattle.console.proofs.Arms.{name_arm, name_other}
 use Rattle.console.proofs.by_name.Goals as goal
 
 pub returns-in-0 : goal.returns-in-0
@@ -39,7 +39,7 @@ returns-in-3 c = let a = c.args in let q = name_arm (desk a.board a.words.now a.
 }
 
 pub returns-in_default : goal.returns-in_default
-returns-in_default c = let a = c.args in let q = name_other (desk a.board a.words.now a.responses.now a.bytes.now) a.name.now (words_of a.rest.now) c.which.result c.which.ensures (next_up 3 _ (next_up 2 _ (next_up 1 _ (not_zero _ c.in_default.in_default-own.rest.0.0.0.1) c.in_default.in_default-own.rest.0.0.1) c.in_default.in_default-own.rest.0.1) c.in_default.in_default-own.rest.1) _ _ _ _ c.on_machine.ensures.value c.on_machine.ensures.words_after c.on_machine.ensures.responses_after c.on_machine.ensures.bytes_after in record {
+returns-in_default c = let a = c.args in let q = name_other (desk a.board a.words.now a.responses.now a.bytes.now) a.name.now (words_of a.rest.now) c.which.result c.which.ensures (search rules) _ _ _ _ c.on_machine.ensures.value c.on_machine.ensures.words_after c.on_machine.ensures.responses_after c.on_machine.ensures.bytes_after in record {
   value = q.0;
   words_after = q.1.0;
   responses_after = q.1.1.0;

@@ -3,7 +3,7 @@ use mathlib.Core.Path.{refl}
 use borrow.Author.Rules.{rules}
 use Rattle.text.specs.Words.{words_of}
 use Rattle.console.specs.Obeying.{desk}
-use Rattle.console.proofs.Arms.{not_zero, next_up, change_arm, change_other}
+use Rattle.console.proofs.Arms.{change_arm, change_other}
 use Rattle.console.proofs.change.Goals as goal
 
 pub returns-in-0 : goal.returns-in-0
@@ -55,7 +55,7 @@ returns-in-5 c = let a = c.args in let q = change_arm (desk a.board a.words.now 
 }
 
 pub returns-in_default : goal.returns-in_default
-returns-in_default c = let a = c.args in let q = change_other (desk a.board a.words.now a.responses.now a.bytes.now) a.name.now (words_of a.rest.now) c.which.result c.which.ensures (next_up 5 _ (next_up 4 _ (next_up 3 _ (next_up 2 _ (next_up 1 _ (not_zero _ c.in_default.in_default-own.rest.0.0.0.0.0.1) c.in_default.in_default-own.rest.0.0.0.0.1) c.in_default.in_default-own.rest.0.0.0.1) c.in_default.in_default-own.rest.0.0.1) c.in_default.in_default-own.rest.0.1) c.in_default.in_default-own.rest.1) _ _ _ _ c.mark.ensures.value c.mark.ensures.words_after c.mark.ensures.responses_after c.mark.ensures.bytes_after in record {
+returns-in_default c = let a = c.args in let q = change_other (desk a.board a.words.now a.responses.now a.bytes.now) a.name.now (words_of a.rest.now) c.which.result c.which.ensures (search rules) _ _ _ _ c.mark.ensures.value c.mark.ensures.words_after c.mark.ensures.responses_after c.mark.ensures.bytes_after in record {
   value = q.0;
   words_after = q.1.0;
   responses_after = q.1.1.0;

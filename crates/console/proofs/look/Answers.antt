@@ -3,7 +3,7 @@ use mathlib.Core.Path.{refl}
 use borrow.Author.Rules.{rules}
 use Rattle.text.specs.Words.{words_of}
 use Rattle.console.specs.Obeying.{desk}
-use Rattle.console.proofs.Arms.{not_zero, next_up, look_arm, look_other}
+use Rattle.console.proofs.Arms.{look_arm, look_other}
 use Rattle.console.proofs.look.Goals as goal
 
 pub returns-in-0 : goal.returns-in-0
@@ -19,7 +19,7 @@ returns-in-1 c = let a = c.args in let q = look_arm (desk a.board a.words.now a.
 }
 
 pub returns-in-2 : goal.returns-in-2
-returns-in-2 c = let a = c.args in let q = look_arm (desk a.board a.words.now a.responses.now a.bytes.now) a.name.now (words_of a.rest.now) c.which.result c.which.ensures 2 (omega arith) _ _ c.tree.ensures refl in record {
+returns-in-2 c = let a = c.args in let q = look_arm (desk a.board a.words.now a.responses.now a.bytes.now) a.name.now (words_of a.rest.now) c.which.result c.which.ensures 2 (omega arith) _ _ c.resolve-in-2.ensures refl in record {
   value = q.0;
   bytes_after = q.1;
 }
@@ -43,7 +43,7 @@ returns-in-5 c = let a = c.args in let q = look_arm (desk a.board a.words.now a.
 }
 
 pub returns-in-6 : goal.returns-in-6
-returns-in-6 c = let a = c.args in let q = look_arm (desk a.board a.words.now a.responses.now a.bytes.now) a.name.now (words_of a.rest.now) c.which.result c.which.ensures 6 (omega arith) _ _ c.list.ensures.value c.list.ensures.bytes_after in record {
+returns-in-6 c = let a = c.args in let q = look_arm (desk a.board a.words.now a.responses.now a.bytes.now) a.name.now (words_of a.rest.now) c.which.result c.which.ensures 6 (omega arith) _ _ c.store-in-6.ensures.value c.store-in-6.ensures.bytes_after in record {
   value = q.0;
   bytes_after = q.1;
 }
@@ -61,7 +61,7 @@ returns-in-8 c = let a = c.args in let q = look_arm (desk a.board a.words.now a.
 }
 
 pub returns-in_default : goal.returns-in_default
-returns-in_default c = let a = c.args in let q = look_other (desk a.board a.words.now a.responses.now a.bytes.now) a.name.now (words_of a.rest.now) c.which.result c.which.ensures (next_up 8 _ (next_up 7 _ (next_up 6 _ (next_up 5 _ (next_up 4 _ (next_up 3 _ (next_up 2 _ (next_up 1 _ (not_zero _ c.in_default.in_default-own.rest.0.0.0.0.0.0.0.0.1) c.in_default.in_default-own.rest.0.0.0.0.0.0.0.1) c.in_default.in_default-own.rest.0.0.0.0.0.0.1) c.in_default.in_default-own.rest.0.0.0.0.0.1) c.in_default.in_default-own.rest.0.0.0.0.1) c.in_default.in_default-own.rest.0.0.0.1) c.in_default.in_default-own.rest.0.0.1) c.in_default.in_default-own.rest.0.1) c.in_default.in_default-own.rest.1) in record {
+returns-in_default c = let a = c.args in let q = look_other (desk a.board a.words.now a.responses.now a.bytes.now) a.name.now (words_of a.rest.now) c.which.result c.which.ensures (search rules) in record {
   value = q.0;
   bytes_after = q.1;
 }

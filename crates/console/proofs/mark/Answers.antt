@@ -3,7 +3,7 @@ use mathlib.Core.Path.{refl}
 use borrow.Author.Rules.{rules}
 use Rattle.text.specs.Words.{words_of}
 use Rattle.console.specs.Obeying.{desk}
-use Rattle.console.proofs.Arms.{not_zero, next_up, mark_arm, mark_other}
+use Rattle.console.proofs.Arms.{mark_arm, mark_other}
 use Rattle.console.proofs.mark.Goals as goal
 
 pub returns-in-0 : goal.returns-in-0
@@ -31,7 +31,7 @@ returns-in-2 c = let a = c.args in let q = mark_arm (desk a.board a.words.now a.
 }
 
 pub returns-in-3 : goal.returns-in-3
-returns-in-3 c = let a = c.args in let q = mark_arm (desk a.board a.words.now a.responses.now a.bytes.now) a.name.now (words_of a.rest.now) c.which.result c.which.ensures 3 (omega arith) _ _ _ _ c.cells.ensures.value c.cells.ensures.words_after c.cells.ensures.responses_after refl in record {
+returns-in-3 c = let a = c.args in let q = mark_arm (desk a.board a.words.now a.responses.now a.bytes.now) a.name.now (words_of a.rest.now) c.which.result c.which.ensures 3 (omega arith) _ _ _ _ c.pulse-in-3.ensures.value c.pulse-in-3.ensures.words_after c.pulse-in-3.ensures.responses_after refl in record {
   value = q.0;
   words_after = q.1.0;
   responses_after = q.1.1.0;
@@ -39,7 +39,7 @@ returns-in-3 c = let a = c.args in let q = mark_arm (desk a.board a.words.now a.
 }
 
 pub returns-in-4 : goal.returns-in-4
-returns-in-4 c = let a = c.args in let q = mark_arm (desk a.board a.words.now a.responses.now a.bytes.now) a.name.now (words_of a.rest.now) c.which.result c.which.ensures 4 (omega arith) _ _ _ _ c.done.ensures.value refl c.done.ensures.responses_after refl in record {
+returns-in-4 c = let a = c.args in let q = mark_arm (desk a.board a.words.now a.responses.now a.bytes.now) a.name.now (words_of a.rest.now) c.which.result c.which.ensures 4 (omega arith) _ _ _ _ c.answer.ensures.value refl c.answer.ensures.responses_after refl in record {
   value = q.0;
   words_after = q.1.0;
   responses_after = q.1.1.0;
@@ -47,7 +47,7 @@ returns-in-4 c = let a = c.args in let q = mark_arm (desk a.board a.words.now a.
 }
 
 pub returns-in-5 : goal.returns-in-5
-returns-in-5 c = let a = c.args in let q = mark_arm (desk a.board a.words.now a.responses.now a.bytes.now) a.name.now (words_of a.rest.now) c.which.result c.which.ensures 5 (omega arith) _ _ _ _ c.faulty.ensures.value refl c.faulty.ensures.responses_after refl in record {
+returns-in-5 c = let a = c.args in let q = mark_arm (desk a.board a.words.now a.responses.now a.bytes.now) a.name.now (words_of a.rest.now) c.which.result c.which.ensures 5 (omega arith) _ _ _ _ c.answer-in-5.ensures.value refl c.answer-in-5.ensures.responses_after refl in record {
   value = q.0;
   words_after = q.1.0;
   responses_after = q.1.1.0;
@@ -55,7 +55,7 @@ returns-in-5 c = let a = c.args in let q = mark_arm (desk a.board a.words.now a.
 }
 
 pub returns-in_default : goal.returns-in_default
-returns-in_default c = let a = c.args in let q = mark_other (desk a.board a.words.now a.responses.now a.bytes.now) a.name.now (words_of a.rest.now) c.which.result c.which.ensures (next_up 5 _ (next_up 4 _ (next_up 3 _ (next_up 2 _ (next_up 1 _ (not_zero _ c.in_default.in_default-own.rest.0.0.0.0.0.1) c.in_default.in_default-own.rest.0.0.0.0.1) c.in_default.in_default-own.rest.0.0.0.1) c.in_default.in_default-own.rest.0.0.1) c.in_default.in_default-own.rest.0.1) c.in_default.in_default-own.rest.1) _ _ c.look.ensures.value c.look.ensures.bytes_after in record {
+returns-in_default c = let a = c.args in let q = mark_other (desk a.board a.words.now a.responses.now a.bytes.now) a.name.now (words_of a.rest.now) c.which.result c.which.ensures (search rules) _ _ c.look.ensures.value c.look.ensures.bytes_after in record {
   value = q.0;
   words_after = q.1.0;
   responses_after = q.1.1.0;

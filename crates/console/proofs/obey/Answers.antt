@@ -1,11 +1,10 @@
 use native.Mathlib.Omega.{arith}
-use borrow.Author.Rules.{rules}
 use Rattle.console.specs.Obeying.{desk}
 use Rattle.console.proofs.Arms.{obey_none, obey_name}
 use Rattle.console.proofs.obey.Goals as goal
 
-pub returns-then-from-to : goal.returns-then-from-to
-returns-then-from-to c = let a = c.args in let n = c.next-word in let q = obey_none (desk a.board a.words.now a.responses.now a.bytes.now) a.line.now n.result n.ensures.value (omega arith) _ c.bad_line.ensures in record {
+pub returns-then-word : goal.returns-then-word
+returns-then-word c = let a = c.args in let n = c.next-word in let q = obey_none (desk a.board a.words.now a.responses.now a.bytes.now) a.line.now n.result n.ensures.value (omega arith) _ c.bad_line.ensures in record {
   value = q.0;
   words_after = q.1.0;
   responses_after = q.1.1.0;
