@@ -2,8 +2,7 @@
 // `chains`.
 #![tactic(auto)]
 
-ghost use Rattle.std.specs.Prelude.{◌≡◌, false, ◌≤◌, length, get_or};
-ghost use Rattle.laws.specs.Bits.{pick};
+ghost use Rattle.std.specs.Prelude.{◌≡◌, false, ◌≤◌, length};
 ghost use Rattle.laws.specs.Lists.{zip, count};
 ghost use Rattle.machine.specs.Machine.{machine};
 ghost use Rattle.machine.specs.Search.{marked};
@@ -96,16 +95,6 @@ fn turn_all(
     counted
 }
 
-fn read_word(panel: Panel, lines: Lines, words: &[u64]) -> u64
-    ensures { result ≡ pick lines.read (get_or words.now panel.address.0 0) 0 }
-{
-    if lines.read {
-        words.get(panel.address.0).copied().unwrap_or(0)
-    } else {
-        0
-    }
-}
-
 // ---- the checks 1 to 7
 
 fn bad_codes(width: u32, panel: Panel, lines: Lines) -> bool
@@ -145,7 +134,7 @@ pub fn pulse(
     ensures responses_after { responses.new ≡ (after (machine width words.old responses.old) panel lines).responses }
 {
     check(words, responses, width, panel, lines)?;
-    let read = read_word(panel, lines, words);
+    let read = machine::read_word(panel, lines, words);
     let count = turn_all(width, panel, lines, words, responses);
     Ok(Answer { count, read })
 }

@@ -2,8 +2,8 @@
 // Document 01: 'The machine', 'One pulse', 'Numbers given when a call is turned down'.
 #![tactic(auto)]
 
-ghost use Rattle.std.specs.Prelude.{◌≡◌, [], ◌-◌, ◌%◌, ◌^◌, ◌≤◌, ◌<◌};
-ghost use Rattle.laws.specs.Bits.{digit};
+ghost use Rattle.std.specs.Prelude.{◌≡◌, [], ◌-◌, ◌%◌, ◌^◌, ◌≤◌, ◌<◌, get_or};
+ghost use Rattle.laws.specs.Bits.{pick};
 ghost use Rattle.machine.specs.Panel.{registers, panel_of, load};
 ghost use Rattle.machine.specs.Machine.{machine, response_bits, selected};
 ghost use Rattle.machine.specs.Resolution.{lowest};
@@ -429,6 +429,19 @@ pub fn check_command(words: usize, panel: Panel, lines: Lines) -> Result<(), Ref
 {
     refuse(Refusal::WrongLines, bad_lines(lines))?;
     refuse(Refusal::NoSuchWord, bad_address(words, panel, lines))
+}
+
+// ---- what both machines read
+
+// "Read gives the word before the pulse." "Read's word is 0 if read isn't raised."
+pub fn read_word(panel: Panel, lines: Lines, words: &[u64]) -> u64
+    ensures { result ≡ pick lines.read (get_or words.now panel.address.0 0) 0 }
+{
+    if lines.read {
+        words.get(panel.address.0).copied().unwrap_or(0)
+    } else {
+        0
+    }
 }
 
 // ---- 02 d, of response bits: what jobs and rounds share

@@ -2,8 +2,7 @@
 // Document 01, 'One pulse'. Its contract is the plain machine's. Masks are worked out once per pulse, in constant time.
 #![tactic(auto)]
 
-ghost use Rattle.std.specs.Prelude.{◌≡◌, true, false, ◌-◌, ◌^◌, ◌≤◌, ◌<◌, length, get_or, Ok};
-ghost use Rattle.laws.specs.Bits.{pick};
+ghost use Rattle.std.specs.Prelude.{◌≡◌, true, false, ◌-◌, ◌^◌, ◌≤◌, ◌<◌, length, Ok};
 ghost use Rattle.laws.specs.Lists.{zip, count};
 ghost use Rattle.machine.specs.Machine.{machine};
 ghost use Rattle.machine.specs.Pulse.{counts, word_after, response_after, count_of, pulsed};
@@ -185,17 +184,6 @@ pub fn give(
     }
 }
 
-// "Read gives the word before the pulse." "Read's word is 0 if read isn't raised."
-fn read_word(panel: Panel, lines: Lines, words: &[u64]) -> u64
-    ensures { result ≡ pick lines.read (get_or words.now panel.address.0 0) 0 }
-{
-    if lines.read {
-        words.get(panel.address.0).copied().unwrap_or(0)
-    } else {
-        0
-    }
-}
-
 // One pulse, or a refusal: what is lent is changed only where nothing is refused.
 pub fn pulse(
     words: &mut [u64],
@@ -209,7 +197,7 @@ pub fn pulse(
     ensures responses_after { responses.new ≡ (after (machine width words.old responses.old) panel lines).responses }
 {
     check(words, responses, width, panel, lines)?;
-    let read = read_word(panel, lines, words);
+    let read = machine::read_word(panel, lines, words);
     let count = give(words, responses, width, panel, lines);
     Ok(Answer { count, read })
 }
