@@ -3,8 +3,10 @@ use Prim.Native.Nat.{ℕ}
 use mathlib.Core.Bool.{Bool}
 use native.Mathlib.Omega.{arith}
 use Rattle.machine.specs.declared.Panel.{Panel}
-use Rattle.explainer.specs.declared.Explained.{Explained}
-use Rattle.explainer.specs.declared.Explained.TheVariants as explains
+use Rattle.std.specs.Prelude.{Result, Ok, Err}
+use Rattle.machine.specs.declared.Refusal.{Refusal}
+use Rattle.explainer.specs.declared.Reason.{Reason}
+use Rattle.explainer.specs.declared.Reason.TheVariants as explains
 use Rattle.job_plans.specs.declared.Command.{Command}
 use Rattle.listing.proofs.Lengths.{Within, both, within, either, text, number, word, byte, refused}
 use Rattle.console_replies.specs.Texts.{search_text, registers_text, panel_text, step_text, why_text}
@@ -25,9 +27,9 @@ step k count held =
     let x = both (both (both name (panel k.panel)) (number " count " count)) end in
     x
 
-pub why : (e : Explained) → Within (why_text e) 61
-why explains.Matched = within 61 (omega arith) (text "matched")
-why (explains.NotSelected bit) = within 61 (omega arith) (number "not selected bit " bit.0)
-why (explains.Against syllable bit) = both (number "syllable " syllable.0) (number " against at " bit.0)
-why (explains.EqualToTheBottom syllable) = within 61 (omega arith) (both (number "syllable " syllable.0) (text " equal to the bottom"))
-why (explains.Refused refusal) = within 61 (omega arith) (refused refusal)
+pub why : (e : Result Reason Refusal) → Within (why_text e) 61
+why (Ok explains.Matched) = within 61 (omega arith) (text "matched")
+why (Ok (explains.NotSelected bit)) = within 61 (omega arith) (number "not selected bit " bit.0)
+why (Ok (explains.Against syllable bit)) = both (number "syllable " syllable.0) (number " against at " bit.0)
+why (Ok (explains.EqualToTheBottom syllable)) = within 61 (omega arith) (both (number "syllable " syllable.0) (text " equal to the bottom"))
+why (Err refusal) = within 61 (omega arith) (refused refusal)

@@ -1,5 +1,4 @@
 -- laws that the functions' proofs cite
 pub mod Loops
-pub mod Answers
 pub mod Lengths
 pub mod Room

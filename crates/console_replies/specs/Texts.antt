@@ -1,9 +1,10 @@
 -- What is printed of each outcome, in the words of docs/BOARD.md, without the newline at its end.
-use Rattle.std.specs.Prelude.{ℕ, Bool, List, [], ◌∷◌, ◌++◌, leb, length, take}
+use Rattle.std.specs.Prelude.{ℕ, Bool, List, [], ◌∷◌, ◌++◌, Result, Ok, Err, leb, length, take}
 use Rattle.laws.specs.Bits.{pick}
 use Rattle.machine.specs.declared.Panel.{Panel}
-use Rattle.explainer.specs.declared.Explained.{Explained}
-use Rattle.explainer.specs.declared.Explained.TheVariants as explains
+use Rattle.machine.specs.declared.Refusal.{Refusal}
+use Rattle.explainer.specs.declared.Reason.{Reason}
+use Rattle.explainer.specs.declared.Reason.TheVariants as explains
 use Rattle.job_plans.specs.declared.Command.{Command}
 use Rattle.text.specs.Ascii.{ascii}
 use Rattle.output.specs.Digits.{pair}
@@ -41,12 +42,12 @@ pairs_text (byte ∷ bytes) = pair byte ++ pairs_text bytes
 
 -- ---- request e: "`matched`, `not selected bit K`, `syllable T against at B`, `syllable T equal to the bottom`", or the refusal
 
-abbrev pub why_text : Explained → List ℕ
-why_text explains.Matched = ascii "matched"
-why_text (explains.NotSelected bit) = named "not selected bit " bit.0
-why_text (explains.Against syllable bit) = named "syllable " syllable.0 ++ named " against at " bit.0
-why_text (explains.EqualToTheBottom syllable) = named "syllable " syllable.0 ++ ascii " equal to the bottom"
-why_text (explains.Refused why) = refusal_text why
+abbrev pub why_text : Result Reason Refusal → List ℕ
+why_text (Ok explains.Matched) = ascii "matched"
+why_text (Ok (explains.NotSelected bit)) = named "not selected bit " bit.0
+why_text (Ok (explains.Against syllable bit)) = named "syllable " syllable.0 ++ named " against at " bit.0
+why_text (Ok (explains.EqualToTheBottom syllable)) = named "syllable " syllable.0 ++ ascii " equal to the bottom"
+why_text (Err why) = refusal_text why
 
 -- ---- every outcome; `bytes` holds the image where it speaks of one
 

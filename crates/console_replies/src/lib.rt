@@ -9,9 +9,9 @@ ghost use Rattle.output.specs.Puts.{Puts};
 ghost use Rattle.console_replies.specs.Texts as texts;
 
 use console_commands::Outcome;
-use explainer::Explained;
+use explainer::Reason;
 use job_plans::Command;
-use machine::{BitSlice, Panel};
+use machine::{BitSlice, Panel, Refusal};
 
 const NEWLINE: u8 = 10;
 
@@ -47,33 +47,33 @@ fn put_panel(out: &mut [u8], at: usize, panel: Panel) -> usize
 // ---- why a word is picked, or is not
 
 fn put_against(out: &mut [u8], syllable: BitSlice, bit: BitSlice) -> usize
-    ensures { Puts (texts.why_text (Explained.Against syllable bit)) 0 out.old out.new result }
+    ensures { Puts (texts.why_text (Ok (Reason.Against syllable bit))) 0 out.old out.new result }
 {
-    let n = output::put_named(out, 0, b"syllable ", syllable.0 as u64);
-    output::put_named(out, n, b" against at ", bit.0 as u64)
+    let n = output::put_named(out, 0, b"syllable ", u64::from(syllable.0));
+    output::put_named(out, n, b" against at ", u64::from(bit.0))
 }
 
 fn put_equal(out: &mut [u8], syllable: BitSlice) -> usize
-    ensures { Puts (texts.why_text (Explained.EqualToTheBottom syllable)) 0 out.old out.new result }
+    ensures { Puts (texts.why_text (Ok (Reason.EqualToTheBottom syllable))) 0 out.old out.new result }
 {
-    let n = output::put_named(out, 0, b"syllable ", syllable.0 as u64);
+    let n = output::put_named(out, 0, b"syllable ", u64::from(syllable.0));
     output::put(out, n, b" equal to the bottom")
 }
 
-fn put_why(out: &mut [u8], given: Explained) -> usize
+fn put_why(out: &mut [u8], given: Result<Reason, Refusal>) -> usize
     ensures { Puts (texts.why_text given) 0 out.old out.new result }
 {
     match given {
-        Explained::Matched => output::put(out, 0, b"matched"),
-        Explained::NotSelected(bit) => output::put_named(
+        Ok(Reason::Matched) => output::put(out, 0, b"matched"),
+        Ok(Reason::NotSelected(bit)) => output::put_named(
             out,
             0,
             b"not selected bit ",
-            bit.0 as u64,
+            u64::from(bit.0),
         ),
-        Explained::Against { syllable, bit } => put_against(out, syllable, bit),
-        Explained::EqualToTheBottom(syllable) => put_equal(out, syllable),
-        Explained::Refused(why) => listing::put_refusal(out, why),
+        Ok(Reason::Against { syllable, bit }) => put_against(out, syllable, bit),
+        Ok(Reason::EqualToTheBottom(syllable)) => put_equal(out, syllable),
+        Err(why) => listing::put_refusal(out, why),
     }
 }
 
@@ -90,8 +90,7 @@ fn put_address(out: &mut [u8], panel: Panel) -> usize
     ensures { Puts (texts.printed (Outcome.Registers panel) []) 0 out.old out.new result }
 {
     let n = put_panel(out, 0, panel);
-    let address = panel.address;
-    output::put_named(out, n, b" address ", address.0 as u64)
+    output::put_named(out, n, b" address ", panel.address.0 as u64)
 }
 
 fn put_line_name(out: &mut [u8], search: bool) -> usize
@@ -108,10 +107,8 @@ fn put_line_name(out: &mut [u8], search: bool) -> usize
 fn put_step(out: &mut [u8], command: Command, count: usize, held: bool) -> usize
     ensures { Puts (texts.step_text command count held) 0 out.old out.new result }
 {
-    let raised = command.lines;
-    let panel = command.panel;
-    let name = put_line_name(out, raised.search);
-    let registers = put_panel(out, name, panel);
+    let name = put_line_name(out, command.lines.search);
+    let registers = put_panel(out, name, command.panel);
     let n = output::put_named(out, registers, b" count ", count as u64);
     if held {
         output::put(out, n, b" held")
@@ -124,10 +121,8 @@ fn put_bytes(out: &mut [u8], bytes: &[u8]) -> usize
     ensures { Puts (ascii "image " ++ texts.pairs_text bytes.now) 0 out.old out.new result }
 {
     let mut n = output::put(out, 0, b"image ");
-    let mut i: usize = 0;
-    while i < bytes.len() {
-        n = output::put_pair(out, n, bytes[i]);
-        i += 1;
+    for byte in bytes {
+        n = output::put_pair(out, n, *byte);
     }
     n
 }
@@ -136,13 +131,13 @@ fn put_bytes(out: &mut [u8], bytes: &[u8]) -> usize
 fn put_image(out: &mut [u8], bytes: &[u8], n: usize, listed: bool) -> usize
     ensures { Puts (texts.of_image bytes.now n (λ image. pick listed (list_text image) (ascii "image " ++ texts.pairs_text image))) 0 out.old out.new result }
 {
-    if bytes.len() < n {
+    let Some(image) = bytes.get(..n) else {
         return 0;
-    }
+    };
     if listed {
-        listing::put(out, &bytes[0..n])
+        listing::put(out, image)
     } else {
-        put_bytes(out, &bytes[0..n])
+        put_bytes(out, image)
     }
 }
 

@@ -1,7 +1,6 @@
 use mathlib.Core.List.{[], ◌∷◌}
 use Rattle.console_replies.specs.Texts.{printed}
 use Rattle.output.proofs.Puts.{puts₂, byte_put}
-use borrow.Author.Rules.{rules}
 use Rattle.console_replies.proofs.put.Goals as goal
 
 pub returns : goal.returns

@@ -1,7 +1,6 @@
 use Rattle.listing.specs.Lists.{named}
 use Rattle.console_replies.specs.Texts.{panel_text}
 use Rattle.output.proofs.Puts.{puts₂}
-use borrow.Author.Rules.{rules}
 use Rattle.console_replies.proofs.put_address.Goals as goal
 
 pub returns : goal.returns

@@ -1,6 +1,5 @@
 use Rattle.listing.specs.Lists.{named16}
 use Rattle.output.proofs.Puts.{puts₃}
-use borrow.Author.Rules.{rules}
 use Rattle.console_replies.proofs.put_codes.Goals as goal
 
 pub returns : goal.returns

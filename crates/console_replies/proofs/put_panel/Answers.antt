@@ -1,7 +1,6 @@
 use Rattle.listing.specs.Lists.{named_response}
 use Rattle.console_replies.specs.Texts.{registers_text}
 use Rattle.output.proofs.Puts.{puts₄}
-use borrow.Author.Rules.{rules}
 use Rattle.console_replies.proofs.put_panel.Goals as goal
 
 pub returns : goal.returns

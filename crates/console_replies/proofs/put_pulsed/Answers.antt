@@ -1,6 +1,5 @@
 use Rattle.listing.specs.Lists.{named, named16}
 use Rattle.output.proofs.Puts.{puts₂}
-use borrow.Author.Rules.{rules}
 use Rattle.console_replies.proofs.put_pulsed.Goals as goal
 
 pub returns : goal.returns

@@ -1,7 +1,6 @@
 use Rattle.listing.specs.Lists.{named16}
 use Rattle.output.proofs.Puts.{puts₄}
 use Rattle.console_replies.specs.Texts.{search_text}
-use borrow.Author.Rules.{rules}
 use Rattle.console_replies.proofs.put_registers.Goals as goal
 
 pub returns : goal.returns

@@ -3,7 +3,6 @@ use Rattle.text.specs.Ascii.{ascii}
 use Rattle.listing.specs.Lists.{named}
 use Rattle.console_replies.specs.Texts.{panel_text}
 use Rattle.output.proofs.Puts.{puts₄}
-use borrow.Author.Rules.{rules}
 use Rattle.console_replies.proofs.put_step.Goals as goal
 
 pub returns-then-held : goal.returns-then-held
