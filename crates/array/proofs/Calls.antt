@@ -14,9 +14,9 @@ use Rattle.array.specs.Refusals.{call_check, answer_of, after}
 abbrev pub Told : Array → Registers → Operation → Result Answer Refusal → List ℕ → List ℕ → List ℕ → Type 0
 Told a r o t os xs ss = (t ≡ answer_of a r o) × ((os ≡ (after a r o).ones) × ((xs ≡ (after a r o).xs) × (ss ≡ (after a r o).selectors)))
 
--- an answer of these registers and this count
-abbrev pub answered_by : Registers → ℕ → Result Answer Refusal
-answered_by q k = Ok (record { registers = q; count = k })
+-- the answer of these registers and this count
+abbrev pub an_answer : Registers → ℕ → Answer
+an_answer q k = record { registers = q; count = k }
 
 module _ (a : Array) (r : Registers) (o : Operation) where
   pub turned_down : (why : Refusal) → call_check a r ≡ Err why → Told a r o (Err why) a.ones a.xs a.selectors
@@ -24,15 +24,15 @@ module _ (a : Array) (r : Registers) (o : Operation) where
   turned_down why h = rw h (refl, (refl, (refl, refl)))
 
   module _ (h : call_check a r ≡ Ok tt) where
-    pub answered : (q : Registers) (k : ℕ) → q ≡ registers_after a.width r o (words_of a) → k ≡ count_of a r o → answered_by q k ≡ answer_of a r o
+    pub answered : (q : Registers) (k : ℕ) → q ≡ registers_after a.width r o (words_of a) → k ≡ count_of a r o → Ok (an_answer q k) ≡ answer_of a r o
     unfolding answer_of
-    answered q k eq ek = rw h (ap₂ answered_by eq ek)
+    answered q k eq ek = rw h (ap₂ (λ (x : Registers) (n : ℕ). Ok (an_answer x n)) eq ek)
 
     pub left : operated a r o ≡ after a r o
     unfolding after
     left = rw h
 
     pub done : (q : Registers) (k : ℕ) (os xs ss : List ℕ) → q ≡ registers_after a.width r o (words_of a) → k ≡ count_of a r o
-        → os ≡ (operated a r o).ones → xs ≡ (operated a r o).xs → ss ≡ (operated a r o).selectors → Told a r o (answered_by q k) os xs ss
+        → os ≡ (operated a r o).ones → xs ≡ (operated a r o).xs → ss ≡ (operated a r o).selectors → Told a r o (Ok (an_answer q k)) os xs ss
     done q k os xs ss eq ek eo ex es =
         (answered q k eq ek, (eo ∙ ap (λ (b : Array). b.ones) left, (ex ∙ ap (λ (b : Array). b.xs) left, es ∙ ap (λ (b : Array). b.selectors) left)))

@@ -27,7 +27,7 @@ use Rattle.array.specs.Refusals.{call_check, answer_of, after}
 use Rattle.array.proofs.Refusals.{Fit, Sound, sound, fits, width_le, r1_fits, r2_fits, m_fits, each_every, how_many_every}
 use Rattle.array_wide.specs.Rules.{agreeing, union, filled, fill_ones, fill_xs}
 use Rattle.array_wide.proofs.Bridge.{agrees_is, written_is, read_is, mask_lt}
-use Rattle.array.proofs.Calls.{answered_by, answered, left}
+use Rattle.array.proofs.Calls.{an_answer, answered, left}
 
 pick_of : (f : Word → ℕ) (t : Bool) (u w : Word) → pick t (f u) (f w) ≡ f (pick t u w)
 pick_of f true u w = refl
@@ -51,7 +51,7 @@ module _ (a : Array) (r : Registers) (h : call_check a r ≡ Ok tt) (mask : Mask
     same w p = agrees_is a.width (width_le (sound a r h)) d m w mask_fits p ∙ ap₂ (λ (x y : ℕ). agrees a.width x y w) ed em
 
     pub searched : (k : ℕ) (ss : List ℕ) → k ≡ how_many (agreeing d m) (words_of a) → ss ≡ each (λ w. marked wanted set combine (agreeing d m w) w.selectors) (words_of a)
-        → (answered_by r k ≡ answer_of a r S) × (ss ≡ (after a r S).selectors)
+        → (Ok (an_answer r k) ≡ answer_of a r S) × (ss ≡ (after a r S).selectors)
     unfolding registers_after counted word_after
     searched k ss ek es = (
       answered a r S h r k refl (ek ∙ how_many_every _ _ (fits (sound a r h)) same),
@@ -73,7 +73,7 @@ module _ (a : Array) (r : Registers) (h : call_check a r ≡ Ok tt) (mask : Mask
 
       pub wrote : (d f g k : ℕ) (os xs : List ℕ) → d ≡ data_of r source → f ≡ fill_ones kind d m → g ≡ fill_xs kind m → k ≡ how_many chosen (words_of a)
           → os ≡ each (λ w. pick (chosen w) (filled m f w.ones) w.ones) (words_of a) → xs ≡ each (λ w. pick (chosen w) (filled m g w.xs) w.xs) (words_of a)
-          → (answered_by r k ≡ answer_of a r W) × ((os ≡ (after a r W).ones) × (xs ≡ (after a r W).xs))
+          → (Ok (an_answer r k) ≡ answer_of a r W) × ((os ≡ (after a r W).ones) × (xs ≡ (after a r W).xs))
       unfolding registers_after counted word_after
       wrote d f g k os xs ed ef eg ek eo ex =
           let same : (w : Word) → Fit a.width w → (filled m f w.ones ≡ (new w).ones) × (filled m g w.xs ≡ (new w).xs)
@@ -90,7 +90,7 @@ module _ (a : Array) (r : Registers) (h : call_check a r ≡ Ok tt) (mask : Mask
           )
 
     pub loaded : (sink : Sink) (q : Registers) (old v b k : ℕ) → old ≡ sink_of r sink → b ≡ union (selected selector form) (words_of a) → k ≡ how_many chosen (words_of a)
-        → v ≡ filled m (bit_and b m) old → q ≡ load sink v r → answered_by q k ≡ answer_of a r (Read selector form sink mask)
+        → v ≡ filled m (bit_and b m) old → q ≡ load sink v r → Ok (an_answer q k) ≡ answer_of a r (Read selector form sink mask)
     unfolding registers_after counted
     loaded sink q old v b k eo eb ek ev eq =
         let same = read_is a.width (width_le (sound a r h)) m (sink_of r sink) (selected selector form) (words_of a) mask_fits (sink_fits (sound a r h) sink) (fits (sound a r h)) in
