@@ -1,4 +1,3 @@
 -- laws of the array's commands
 pub mod Loads
-pub mod Arms
 pub mod BadLines

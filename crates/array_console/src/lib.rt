@@ -168,6 +168,7 @@ fn operate(
 // ---- which command a line is
 
 // The commands that are lent just the array's own entries.
+#[tactic(auto, unfolding(crate::specs::Obeying::on_own))]
 fn on_own(
     rack: Rack,
     name: &[u8],
@@ -193,6 +194,7 @@ fn on_own(
     }
 }
 
+#[tactic(auto, unfolding(crate::specs::Obeying::named))]
 fn by_name(
     rack: Rack,
     name: &[u8],
