@@ -11,6 +11,7 @@ use contract.Lifetimes.{Lfts}
 use borrow.Fn.World.{ArgsD, ResD}
 use borrow.Fn.Kinds.{ended_of}
 use denote.Triple.Clauses.{AtExit}
+use Rattle.array.proofs.Calls.{an_answer}
 use Rattle.std.specs.Prelude.{Option, Some, None, Result, Ok, Err}
 use Rattle.laws.specs.Bits.{pick}
 use Rattle.machine.specs.declared.WordSlice.{WordSlice}
@@ -26,7 +27,7 @@ use Rattle.entry_forms.specs.Numbers.{tell_in}
 use Rattle.array_entries.specs.Numbers.{operation_of, registers_of, answer_size, order_of, refused, turned, told_by, is_three, entry_told, numbers_of, left_by, left, loaded, registers_by, registers_left}
 use Rattle.promises.proofs.Demand1.{Entry, first, stray}
 use Rattle.promises.proofs.Calls.{Leaves}
-use Rattle.array_promises.proofs.Demand1.{operate_table, an_answer, tells_answer, operate_tells, operate_accepted, operate_unchanged}
+use Rattle.array_promises.proofs.Demand1.{operate_table, tells_answer, operate_tells, operate_accepted, operate_unchanged}
 use Rattle.array_cells.specs.contracts.operate as plain
 use Rattle.array_cells.proofs.operate.Kinds as plain-kinds
 use Rattle.array_cells.proofs.operate.Reads as plain-reads

@@ -6,6 +6,7 @@ use mathlib.Core.Path.{◌≡◌, refl, sym, ap, ◌∙◌}
 use mathlib.Core.Bool.{Bool, true, false}
 use mathlib.Core.List.{List, [], ◌∷◌}
 use lib.ListN.{length}
+use Rattle.array.proofs.Calls.{an_answer}
 use Rattle.std.specs.Prelude.{Option, Some, None, Result, Ok, Err}
 use Rattle.machine.specs.declared.WordSlice.{WordSlice}
 use Rattle.machine.specs.Refusals.{bad_width, ◌else◌, refuse, answer_by, change_by}
@@ -60,10 +61,6 @@ operate_given a r =
 
 abbrev pub tells_answer : Result Answer Refusal → ℕ × ℕ
 tells_answer t = ((told t).refusal, (told t).also)
-
--- an answer of these registers and this count
-abbrev pub an_answer : Registers → ℕ → Answer
-an_answer r k = record { registers = r; count = k }
 
 by_check : (c : Check) (r : Registers) (k : ℕ) → tells_answer (answer_by c (an_answer r k)) ≡ given c
 by_check (Ok tt) r k = refl

@@ -14,7 +14,7 @@ use borrow.Fn.Kinds.{ended_of}
 use denote.Triple.Clauses.{AtExit}
 use borrow.Author.Tests.{ne_eqb}
 use Rattle.std.specs.Prelude.{Ok}
-use Rattle.array.proofs.Calls.{answered_by}
+use Rattle.array.proofs.Calls.{an_answer}
 use Rattle.laws.specs.Bits.{bit, pick, digit, under}
 use Rattle.laws.proofs.Digits.{bit_lt}
 use Rattle.laws.proofs.Bits.{digit_at, number_bit, every_at}
@@ -85,7 +85,7 @@ module _ (wanted : Wanted) (set : Latches) (combine : Combine) (agree : Bool) (b
 
 module _ (a : Array) (r : Registers) (accepted : call_check a r ≡ Ok tt) where
   -- the answer is the registers after it and the count
-  pub answered : (o : Operation) → answer_of a r o ≡ answered_by (registers_of a r o) (count_of a r o)
+  pub answered : (o : Operation) → answer_of a r o ≡ Ok (an_answer (registers_of a r o) (count_of a r o))
   unfolding answer_of
   answered o = rw accepted
 
