@@ -68,7 +68,8 @@ fn marks(p: Tags, h: &[u8; 64], responses: &mut [Response]) -> u8
         let r = *response;
         let x = hit_of(p, h[i], r);
         *response = put_in(p.target, x, r);
-        n += u8::from(x);
+        // tried: `u8::from(x)`; a search then takes 1.01 to 1.02 of the time
+        n += x as u8;
     }
     n
 }

@@ -23,7 +23,7 @@ loop-i-preserved c =
     let x = c.hit_of-x in (
       step (mark a.p) a.h.now a.responses.now r i w c.put_in.result (search rules) (search rules)
           (marked_is a.p (get_or a.h.now i 0) (get_or r i 0) c.put_in.ensures x.ensures),
-      rw (c.from-n.ensures ∙ byte_is x.result)
+      rw (byte_is x.result)
           (step_counts (hit a.p) a.h.now a.responses.now c.loop-i.n i x.result c.loop-i.invariant.1 (search rules) (search rules)
           (x.ensures ∙ ap (hit a.p (get_or a.h.now i 0)) (here (mark a.p) a.h.now a.responses.now r i w))),
     )
