@@ -1,3 +1,2 @@
 -- laws of the plain machine
 pub mod Bus
-pub mod Turns

@@ -2,10 +2,10 @@
 #![tactic(auto)]
 
 ghost use Rattle.std.specs.Prelude.{◌≡◌, false, ◌≤◌, ◌<◌, length};
-ghost use Rattle.laws.specs.Bits.{bit};
 ghost use Rattle.machine.specs.Refusals.{bad_width};
 ghost use Rattle.array.specs.Cells as tables;
-ghost use Rattle.array.specs.Words.{Word, word, cell_at, words, each, how_many};
+ghost use Rattle.array.specs.Words as stored;
+ghost use Rattle.array.specs.Words.{words, each, how_many};
 ghost use Rattle.array.specs.Selectors.{selected};
 ghost use Rattle.array.specs.Operations as operations;
 ghost use Rattle.array.specs.Refusals.{answer_of, after};
@@ -14,17 +14,6 @@ use array::{Answer, Cell, Form, Kind, Operation, Refusal, Registers, Selector};
 use chains::bits;
 
 // ---- one cell
-
-fn cell_of(ones: u64, xs: u64, i: u32) -> Cell
-    requires { i < 64 }
-    ensures { result ≡ tables.cell_of (bit ones i) (bit xs i) }
-{
-    match (bits::bit_of(xs, i), bits::bit_of(ones, i)) {
-        (0, 0) => Cell::Zero,
-        (0, _) => Cell::One,
-        _ => Cell::X,
-    }
-}
 
 fn one_of(cell: Cell) -> u64
     ensures { (result ≡ tables.one_of cell) × (result ≤ 1) }
@@ -89,61 +78,63 @@ fn written_of(kind: Kind, argument: Cell, content: Cell) -> Cell
 
 // ---- one word
 
-fn is_agreeing(width: u32, datum: u64, mask: u64, ones: u64, xs: u64) -> bool
+// Its two planes and its selector byte.
+#[derive(Clone, Copy)]
+struct Word {
+    ones: u64,
+    xs: u64,
+    selectors: u8,
+}
+
+fn cell_at(word: Word, i: u32) -> Cell
+    requires { i < 64 }
+    ensures { result ≡ stored.cell_at (stored.word word.ones word.xs word.selectors) i }
+{
+    match (bits::bit_of(word.xs, i), bits::bit_of(word.ones, i)) {
+        (0, 0) => Cell::Zero,
+        (0, _) => Cell::One,
+        _ => Cell::X,
+    }
+}
+
+fn is_agreeing(width: u32, datum: u64, mask: u64, word: Word) -> bool
     requires { width ≤ 64 }
-    ensures { result ≡ operations.agrees width datum mask (word ones xs 0) }
+    ensures { result ≡ operations.agrees width datum mask (stored.word word.ones word.xs word.selectors) }
 {
     for i in 0..width {
-        if is_mismatch(argument_at(datum, mask, i), cell_of(ones, xs, i)) {
+        if is_mismatch(argument_at(datum, mask, i), cell_at(word, i)) {
             return false;
         }
     }
     true
 }
 
-#[derive(Clone, Copy)]
-struct Planes {
-    ones: u64,
-    xs: u64,
-}
-
-fn write_cells(width: u32, kind: Kind, datum: u64, mask: u64, ones: u64, xs: u64) -> Planes
+fn write_cells(width: u32, kind: Kind, datum: u64, mask: u64, word: Word) -> Word
     requires { width ≤ 64 }
-    ensures { (result.ones ≡ (operations.written_to width kind datum mask (word ones xs 0)).ones) × (result.xs ≡ (operations.written_to width kind datum mask (word ones xs 0)).xs) }
+    ensures { stored.word result.ones result.xs result.selectors ≡ operations.written_to width kind datum mask (stored.word word.ones word.xs word.selectors) }
 {
-    let mut new_ones: u64 = 0;
-    let mut new_xs: u64 = 0;
+    let mut ones: u64 = 0;
+    let mut xs: u64 = 0;
     for i in 0..width {
-        let cell = written_of(kind, argument_at(datum, mask, i), cell_of(ones, xs, i));
-        new_ones += bits::at_place(one_of(cell), i);
-        new_xs += bits::at_place(x_of(cell), i);
+        let cell = written_of(kind, argument_at(datum, mask, i), cell_at(word, i));
+        ones += bits::at_place(one_of(cell), i);
+        xs += bits::at_place(x_of(cell), i);
     }
-    Planes {
-        ones: new_ones,
-        xs: new_xs,
-    }
+    Word { ones, xs, ..word }
 }
 
 // What an operation makes of one word, and whether the word counts.
 #[derive(Clone, Copy)]
 struct Turned {
-    ones: u64,
-    xs: u64,
-    selectors: u8,
+    word: Word,
     counted: bool,
 }
 
-fn turn(
-    width: u32,
-    registers: Registers,
-    operation: Operation,
-    ones: u64,
-    xs: u64,
-    selectors: u8,
-) -> Turned
+#[tactic(auto, using(machine::proofs::Refusals::width_le), unfolding(array::specs::Operations::word_after, array::specs::Operations::counted))]
+fn turn(width: u32, registers: Registers, operation: Operation, word: Word) -> Turned
     requires { bad_width width ≡ false }
-    ensures selectors_value { word result.ones result.xs result.selectors ≡ operations.word_after width registers operation (word ones xs selectors) }
-    ensures counted_value { result.counted ≡ operations.counted width registers operation (word ones xs selectors) }
+    ensures selectors_value { stored.word result.word.ones result.word.xs result.word.selectors ≡ operations.word_after width registers operation (stored.word word.ones word.xs word.selectors) }
+    ensures counted_value { result.counted ≡ operations.counted width registers operation (stored.word word.ones word.xs word.selectors) }
 {
     match operation {
         Operation::Search {
@@ -155,11 +146,10 @@ fn turn(
         } => {
             let datum = array::data_of(registers, source);
             let under = array::mask_of(width, registers, mask);
-            let agree = is_agreeing(width, datum, under, ones, xs);
+            let agree = is_agreeing(width, datum, under, word);
+            let selectors = array::mark(wanted, destination, combine, agree, word.selectors);
             Turned {
-                ones,
-                xs,
-                selectors: array::mark(wanted, destination, combine, agree, selectors),
+                word: Word { selectors, ..word },
                 counted: agree,
             }
         }
@@ -169,10 +159,8 @@ fn turn(
             sink: _,
             mask: _,
         } => Turned {
-            ones,
-            xs,
-            selectors,
-            counted: array::is_selected(selector, form, selectors),
+            word,
+            counted: array::is_selected(selector, form, word.selectors),
         },
         Operation::Write {
             kind,
@@ -181,21 +169,16 @@ fn turn(
             selector,
             form,
         } => {
-            if !array::is_selected(selector, form, selectors) {
+            if !array::is_selected(selector, form, word.selectors) {
                 return Turned {
-                    ones,
-                    xs,
-                    selectors,
+                    word,
                     counted: false,
                 };
             }
             let datum = array::data_of(registers, source);
             let under = array::mask_of(width, registers, mask);
-            let planes = write_cells(width, kind, datum, under, ones, xs);
             Turned {
-                ones: planes.ones,
-                xs: planes.xs,
-                selectors,
+                word: write_cells(width, kind, datum, under, word),
                 counted: true,
             }
         }
@@ -212,7 +195,12 @@ fn bus_at(selector: Selector, form: Form, ones: &[u64], xs: &[u64], selectors: &
     let mut on: u64 = 0;
     for k in 0..ones.len() {
         if array::is_selected(selector, form, selectors[k]) {
-            on |= read_of(cell_of(ones[k], xs[k], i));
+            let word = Word {
+                ones: ones[k],
+                xs: xs[k],
+                selectors: selectors[k],
+            };
+            on |= read_of(cell_at(word, i));
         }
     }
     on
@@ -264,6 +252,7 @@ fn read_cells(
     value
 }
 
+#[tactic(auto, using(machine::proofs::Refusals::width_le), unfolding(array::specs::Operations::registers_after))]
 fn registers_after(
     width: u32,
     registers: Registers,
@@ -311,11 +300,16 @@ fn turn_all(
 {
     let mut counted: usize = 0;
     for k in 0..ones.len() {
-        let t = turn(width, registers, operation, ones[k], xs[k], selectors[k]);
-        ones[k] = t.ones;
-        xs[k] = t.xs;
-        selectors[k] = t.selectors;
-        counted += usize::from(t.counted);
+        let word = Word {
+            ones: ones[k],
+            xs: xs[k],
+            selectors: selectors[k],
+        };
+        let turned = turn(width, registers, operation, word);
+        ones[k] = turned.word.ones;
+        xs[k] = turned.word.xs;
+        selectors[k] = turned.word.selectors;
+        counted += usize::from(turned.counted);
     }
     counted
 }
@@ -323,6 +317,7 @@ fn turn_all(
 // ---- one operation
 
 // One operation, or a refusal: what is lent is changed only where nothing is refused.
+#[tactic(auto, using(machine::proofs::Refusals::handed), unfolding(array::specs::Refusals::answer_of, array::specs::Refusals::after))]
 pub fn operate(
     ones: &mut [u64],
     xs: &mut [u64],

@@ -21,7 +21,7 @@ loop-k-preserved c =
     let e = c.is_selected.ensures in
     bus.step _ _ _ _ _ l.on c.if-is_selected.on l.k l.invariant (search rules) c.requires.xs_len.0 c.requires.xs_len.1
     (elim c.if-is_selected.branch [
-      | then-is_selected w ↦ w.on-is ∙ rw (w.read_of-on.ensures.0 ∙ ap reads w.cell_of.ensures) (bus.took t r l.on l.invariant.small (bus.reads_one (cell_at (word_at a.ones.now a.xs.now a.selectors.now l.k) a.i)) (sym e ∙ w.if-is_selected.true))
+      | then-is_selected w ↦ w.on-is ∙ rw (w.read_of-on.ensures.0 ∙ ap reads w.cell_at.ensures) (bus.took t r l.on l.invariant.small (bus.reads_one (cell_at (word_at a.ones.now a.xs.now a.selectors.now l.k) a.i)) (sym e ∙ w.if-is_selected.true))
       | else-is_selected w ↦ w.on-is ∙ bus.passed t r l.on (sym e ∙ w.if-is_selected.false)
     ])
 

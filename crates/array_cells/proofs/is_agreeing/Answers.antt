@@ -29,12 +29,12 @@ pub returns-then-is_mismatch : goal.returns-then-is_mismatch
 unfolding agrees
 returns-then-is_mismatch c =
     fails _ _ c.loop-i.i (search rules)
-    (sym (ap not (c.is_mismatch.ensures ∙ ap₂ mismatch c.argument_at.ensures c.cell_of.ensures)) ∙ ap not c.if-is_mismatch.true)
+    (sym (ap not (c.is_mismatch.ensures ∙ ap₂ mismatch c.argument_at.ensures c.cell_at.ensures)) ∙ ap not c.if-is_mismatch.true)
 
 pub loop-i-preserved : goal.loop-i-preserved
 loop-i-preserved c =
     one_more c.loop-i.i _ c.loop-i.invariant
-    (sym (ap not (c.is_mismatch.ensures ∙ ap₂ mismatch c.argument_at.ensures c.cell_of.ensures)) ∙ ap not c.if-is_mismatch.false)
+    (sym (ap not (c.is_mismatch.ensures ∙ ap₂ mismatch c.argument_at.ensures c.cell_at.ensures)) ∙ ap not c.if-is_mismatch.false)
 
 pub returns : goal.returns
 unfolding agrees

@@ -8,4 +8,4 @@ use Rattle.array_cells.proofs.is_agreeing.Given as goal
 
 -- no cell below the index mismatches
 abbrev pub invariant-loop-i : goal.invariant-loop-i
-invariant-loop-i l = every l.i (λ i. not (mismatch (argument_at l.datum l.mask i) (cell_at (word l.ones l.xs 0) i))) ≡ true
+invariant-loop-i l = every l.i (λ i. not (mismatch (argument_at l.datum l.mask i) (cell_at (word l.word.ones l.word.xs l.word.selectors) i))) ≡ true

@@ -15,14 +15,14 @@ pub loop-k-preserved : goal.loop-k-preserved
 loop-k-preserved c =
     let l = c.loop-k in
     let a = c.args in
-    let t = c.turn-t in
+    let t = c.turn-turned in
     let ho : l.k < length l.ones = search rules in
     let hx : l.k < length l.xs = omega arith in
     let hs : l.k < length l.selectors = omega arith in
     rw (c.from-counted.ensures ∙ as_digit t.result.counted)
     (step (operations.word_after a.width a.registers a.operation) (operations.counted a.width a.registers a.operation)
     a.ones.now a.xs.now a.selectors.now l.invariant ho
-    (stored l.ones l.k t.result.ones ho) (stored l.xs l.k t.result.xs hx) (stored l.selectors l.k t.result.selectors hs)
+    (stored l.ones l.k t.result.word.ones ho) (stored l.xs l.k t.result.word.xs hx) (stored l.selectors l.k t.result.word.selectors hs)
     (ap (λ (w : Word). w.ones) t.ensures.selectors_value) (ap (λ (w : Word). w.xs) t.ensures.selectors_value) (ap (λ (w : Word). w.selectors) t.ensures.selectors_value) t.ensures.counted_value)
 
 pub returns : goal.returns
