@@ -130,6 +130,7 @@ pub fn answer(
     ensures responses_after { responses.new ≡ (after_answer x f word verdict (machine width words.now responses.old)).responses }
 {
     check_answer(words, responses, width, x, f, word)?;
-    responses[word.0] = judged(responses[word.0], x, f, verdict);
+    let response = judged(responses[word.0], x, f, verdict);
+    responses[word.0] = response;
     Ok(())
 }

@@ -8,8 +8,8 @@ pub bounds-responses-word : goal.bounds-responses-word
 bounds-responses-word c =
     let a = c.args in (accepted a.x a.f a.word (machine a.width a.words.now a.responses.now) (search rules)).low.within
 
-pub judged-requires : goal.judged-requires
-judged-requires c =
+pub judged-response-requires : goal.judged-response-requires
+judged-response-requires c =
     let a = c.args in
     let g = (accepted a.x a.f a.word (machine a.width a.words.now a.responses.now) (search rules)).fit in
     (g.mark, g.fault)
