@@ -1,12 +1,12 @@
 -- What an operation answers and leaves, where it is turned down and where it isn't.
 use Prim.Native.Nat.{ℕ}
-use mathlib.Core.Path.{◌≡◌, refl, ap, ap₂, ◌∙◌}
+use mathlib.Core.Path.{◌≡◌, ap₂}
 use mathlib.Core.List.{List}
 use Rattle.array.specs.declared.Registers.{Registers}
 use Rattle.array.specs.declared.Operation.{Operation}
 use Rattle.array.specs.declared.Refusal.{Refusal}
 use Rattle.array.specs.declared.Answer.{Answer}
-use Rattle.std.specs.Prelude.{Result, Ok, Err}
+use Rattle.std.specs.Prelude.{Result, Ok}
 use Rattle.array.specs.Operations.{Array, words_of, registers_after, count_of, operated}
 use Rattle.array.specs.Refusals.{call_check, answer_of, after}
 
@@ -19,10 +19,6 @@ abbrev pub an_answer : Registers → ℕ → Answer
 an_answer q k = record { registers = q; count = k }
 
 module _ (a : Array) (r : Registers) (o : Operation) where
-  pub turned_down : (why : Refusal) → call_check a r ≡ Err why → Told a r o (Err why) a.ones a.xs a.selectors
-  unfolding answer_of after
-  turned_down why h = rw h (refl, (refl, (refl, refl)))
-
   module _ (h : call_check a r ≡ Ok tt) where
     pub answered : (q : Registers) (k : ℕ) → q ≡ registers_after a.width r o (words_of a) → k ≡ count_of a r o → Ok (an_answer q k) ≡ answer_of a r o
     unfolding answer_of
@@ -31,8 +27,3 @@ module _ (a : Array) (r : Registers) (o : Operation) where
     pub left : operated a r o ≡ after a r o
     unfolding after
     left = rw h
-
-    pub done : (q : Registers) (k : ℕ) (os xs ss : List ℕ) → q ≡ registers_after a.width r o (words_of a) → k ≡ count_of a r o
-        → os ≡ (operated a r o).ones → xs ≡ (operated a r o).xs → ss ≡ (operated a r o).selectors → Told a r o (Ok (an_answer q k)) os xs ss
-    done q k os xs ss eq ek eo ex es =
-        (answered q k eq ek, (eo ∙ ap (λ (b : Array). b.ones) left, (ex ∙ ap (λ (b : Array). b.xs) left, es ∙ ap (λ (b : Array). b.selectors) left)))

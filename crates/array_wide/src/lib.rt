@@ -125,6 +125,7 @@ fn write_words(
 // ---- one operation
 
 // One operation, or a refusal: what is lent is changed only where nothing is refused.
+#[tactic(auto, using(machine::proofs::Refusals::handed), unfolding(array::specs::Refusals::answer_of, array::specs::Refusals::after))]
 pub fn operate(
     ones: &mut [u64],
     xs: &mut [u64],

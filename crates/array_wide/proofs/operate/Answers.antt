@@ -1,21 +1,10 @@
 -- Where the checks are passed, the operation's results; where not, the refusal, and nothing has changed.
 use mathlib.Core.Path.{sym, ◌∙◌}
 use Rattle.array.specs.Operations.{array}
-use Rattle.machine.proofs.Refusals.{handed}
 use Rattle.array.proofs.Refusals.{sound, same_xs, same_selectors}
-use Rattle.array.proofs.Calls.{turned_down}
 use Rattle.array_wide.proofs.Sweeps.{searched, loaded, wrote}
 use Rattle.array_wide.proofs.Answers.{after_search, after_read, after_write}
 use Rattle.array_wide.proofs.operate.Goals as goal
-
-pub returns-in_err-check_call : goal.returns-in_err-check_call
-returns-in_err-check_call c =
-    let a = c.args in let q = turned_down (array a.width a.ones.now a.xs.now a.selectors.now) a.registers a.operation _ (sym c.check_call.ensures ∙ c.in_err-check_call.was) in record {
-      value = handed _ _ c.from_residual.ensures.1 ∙ q.0;
-      ones_after = q.1.0;
-      xs_after = q.1.1.0;
-      selectors_after = q.1.1.1;
-    }
 
 -- ---- search
 
