@@ -159,11 +159,3 @@ pub all_every : {P : Word → Type 0} {ws : List Word} (f g : Word → Bool) →
 unfolding all
 all_every f g end h = refl
 all_every f g (more p ps) h = ap₂ (λ (a b : Bool). a && b) (h _ p) (all_every f g ps h)
-
-pub each_like : (n : ℕ) (f g : Word → ℕ) (ws : List Word) → lowest_word (word_too_wide n) 0 ws ≡ None → all (all_cells n) ws ≡ true
-    → ((w : Word) → w.ones < 2 ^ n → w.xs < 2 ^ n → all_cells n w ≡ true → f w ≡ g w) → each f ws ≡ each g ws
-each_like n f g ws wide cell h = each_every f g (every_fit n 0 ws wide cell) (λ w p. h w p.ones p.xs p.cells)
-
-pub how_many_like : (n : ℕ) (f g : Word → Bool) (ws : List Word) → lowest_word (word_too_wide n) 0 ws ≡ None → all (all_cells n) ws ≡ true
-    → ((w : Word) → w.ones < 2 ^ n → w.xs < 2 ^ n → all_cells n w ≡ true → f w ≡ g w) → how_many f ws ≡ how_many g ws
-how_many_like n f g ws wide cell h = how_many_every f g (every_fit n 0 ws wide cell) (λ w p. h w p.ones p.xs p.cells)

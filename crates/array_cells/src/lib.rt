@@ -55,7 +55,7 @@ fn is_mismatch(argument: Cell, content: Cell) -> bool
     )
 }
 
-// "an X state reads as zero"
+// "an X state reads as zero": another table than one_of's, which happens to agree
 fn read_of(content: Cell) -> u64
     ensures { (result ≡ tables.reads content) × (result ≤ 1) }
 {
@@ -281,7 +281,7 @@ fn registers_after(
     }
 }
 
-// ---- all words
+// ---- all words: the three buffers are lent one by one, since a contract says of each what it holds afterwards
 
 fn turn_all(
     width: u32,

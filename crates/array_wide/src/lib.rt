@@ -47,7 +47,7 @@ fn fill_xs(kind: Kind, mask: u64) -> u64
     }
 }
 
-// ---- all words
+// ---- all words: the three buffers are lent one by one, since a contract says of each what it holds afterwards
 
 fn search_words(
     datum: u64,
