@@ -1,2 +1,0 @@
--- laws that the functions' proofs cite
-pub mod Taking
