@@ -64,6 +64,7 @@ fn read_lines(rest: &[u8]) -> Option<Lines>
 {
     let mut lines = no_lines();
     let mut at: usize = 0;
+    // a turn goes on behind a word, and not by one, so no range counts the turns
     while at < rest.len() {
         let word = text::words::next(rest, at);
         if word.from == word.to {

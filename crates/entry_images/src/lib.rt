@@ -3,21 +3,16 @@
 #![tactic(auto)]
 
 ghost use Rattle.std.specs.Prelude.{◌≡◌, length};
-ghost use Rattle.std.proofs.lemmas.List.Edits.{sets};
-ghost use Rattle.machine.specs.Refusals.{answer_by, change_by};
 ghost use Rattle.jobs.specs.Runs.{state};
-ghost use Rattle.image_layout.specs.Format.{image_of};
-ghost use Rattle.image_layout.specs.Reading.{state_in};
-ghost use Rattle.image.specs.Calls.{write_check, read_check, told_wrote, told_read};
-ghost use Rattle.entry_forms.specs.Numbers.{lower, tell_in};
+ghost use Rattle.image.specs.Calls.{told_wrote, told_read};
+ghost use Rattle.entry_forms.specs.Numbers.{tell_in};
 ghost use Rattle.entry_forms.specs.Records.{held_in};
 ghost use Rattle.entry_images.specs.Entries as entries;
 
 use entry_forms::records::{check_held, check_record, count_held, held_of, put_record};
 use entry_forms::{check_room, lower, lower_of, number_of, tell};
-use image::Loaded;
-use job_plans::Job;
-use machine::{Refusal, Response};
+use image::{Loaded, reading, writing};
+use machine::{Refusal, Response, also_of};
 
 // ---- writing
 
@@ -27,28 +22,6 @@ fn check_write(job: &[u8], room: usize) -> Result<(), Refusal>
     ensures { result ≡ entries.write_own job.now room }
 {
     lower(check_held(job), check_room(WRITE_SIZE, room))
-}
-
-// The image written, or where the arguments do not pass by themselves the lower refusal of the two.
-#[tactic(auto, unfolding(image::specs::Calls::write_of, image::specs::Calls::written))]
-fn write(
-    own: Result<(), Refusal>,
-    words: &[u64],
-    responses: &[Response],
-    width: u32,
-    held: Option<Job>,
-    image: &mut [u8],
-) -> Result<usize, Refusal>
-    ensures value { let s = state width words.now responses.now held in result ≡ answer_by (lower own (write_check s (length image.old))) (length (image_of s)) }
-    ensures image_after { let s = state width words.now responses.now held in image.new ≡ change_by (lower own (write_check s (length image.old))) (sets image.old 0 (image_of s)) image.old }
-{
-    match own {
-        Ok(()) => image::writing::write(words, responses, width, held, image),
-        Err(why) => {
-            let other = image::writing::check_write(words, responses, width, held, image.len());
-            Err(lower_of(why, other))
-        }
-    }
 }
 
 fn tell_wrote(answer: &mut [u64], wrote: Result<usize, Refusal>) -> u32
@@ -61,14 +34,14 @@ fn tell_wrote(answer: &mut [u64], wrote: Result<usize, Refusal>) -> u32
             0
         }
         Err(why) => {
-            tell(answer, &[machine::number_of(why), machine::also_of(why), 0]);
+            tell(answer, &[machine::number_of(why), also_of(why), 0]);
             number_of(why)
         }
     }
 }
 
 #[unsafe(no_mangle)]
-#[tactic(auto, unfolding(crate::specs::Entries::write_told, crate::specs::Entries::write_left, crate::specs::Entries::write_entry))]
+#[tactic(auto, unfolding(crate::specs::Entries::write_told, crate::specs::Entries::write_left, crate::specs::Entries::write_entry, image::specs::Calls::write_of, image::specs::Calls::written))]
 pub extern "C" fn dushvaneth_write(
     words: &[u64],
     responses: &[Response],
@@ -81,8 +54,14 @@ pub extern "C" fn dushvaneth_write(
     ensures answer_after { answer.new ≡ tell_in (entries.write_numbers (entries.write_told (state width words.now responses.now (held_in job.now)) job.now image.old (length answer.old))) answer.old }
     ensures image_after { image.new ≡ entries.write_left (state width words.now responses.now (held_in job.now)) job.now image.old (length answer.old) }
 {
-    let own = check_write(job, answer.len());
-    let wrote = write(own, words, responses, width, held_of(job), image);
+    let holds = held_of(job);
+    let wrote = match check_write(job, answer.len()) {
+        Ok(()) => writing::write(words, responses, width, holds, image),
+        Err(why) => {
+            let other = writing::check_write(words, responses, width, holds, image.len());
+            Err(lower_of(why, other))
+        }
+    };
     tell_wrote(answer, wrote)
 }
 
@@ -94,27 +73,6 @@ fn check_read(job: &[u8], room: usize) -> Result<(), Refusal>
     ensures { result ≡ entries.read_own job.now room }
 {
     lower(check_record(job), check_room(READ_SIZE, room))
-}
-
-// The image read, or where the arguments do not pass by themselves the lower refusal of the two.
-#[tactic(auto, unfolding(image::specs::Calls::read_of, image::specs::Calls::words_read, image::specs::Calls::responses_read))]
-fn read(
-    own: Result<(), Refusal>,
-    image: &[u8],
-    words: &mut [u64],
-    responses: &mut [Response],
-) -> Result<Loaded, Refusal>
-    ensures value { result ≡ entries.read_by (lower own (read_check image.now (length words.old) (length responses.old))) image.now }
-    ensures words_after { words.new ≡ change_by (lower own (read_check image.now (length words.old) (length responses.old))) (sets words.old 0 (state_in image.now).machine.words) words.old }
-    ensures responses_after { responses.new ≡ change_by (lower own (read_check image.now (length words.old) (length responses.old))) (sets responses.old 0 (state_in image.now).machine.responses) responses.old }
-{
-    match own {
-        Ok(()) => image::reading::read(image, words, responses),
-        Err(why) => {
-            let other = image::reading::check_read(image, words.len(), responses.len());
-            Err(lower_of(why, other))
-        }
-    }
 }
 
 fn tell_read(answer: &mut [u64], found: Result<Loaded, Refusal>) -> u32
@@ -129,10 +87,7 @@ fn tell_read(answer: &mut [u64], found: Result<Loaded, Refusal>) -> u32
             0
         }
         Err(why) => {
-            tell(
-                answer,
-                &[machine::number_of(why), machine::also_of(why), 0, 0, 0],
-            );
+            tell(answer, &[machine::number_of(why), also_of(why), 0, 0, 0]);
             number_of(why)
         }
     }
@@ -148,7 +103,7 @@ fn keep_read(job: &mut [u8], found: Result<Loaded, Refusal>)
 }
 
 #[unsafe(no_mangle)]
-#[tactic(auto, unfolding(crate::specs::Entries::read_told, crate::specs::Entries::words_left, crate::specs::Entries::responses_left, crate::specs::Entries::record_left, crate::specs::Entries::read_entry))]
+#[tactic(auto, unfolding(crate::specs::Entries::read_told, crate::specs::Entries::words_left, crate::specs::Entries::responses_left, crate::specs::Entries::record_left, crate::specs::Entries::read_entry, image::specs::Calls::read_of, image::specs::Calls::words_read, image::specs::Calls::responses_read))]
 pub extern "C" fn dushvaneth_read(
     image: &[u8],
     words: &mut [u64],
@@ -162,8 +117,13 @@ pub extern "C" fn dushvaneth_read(
     ensures responses_after { responses.new ≡ entries.responses_left image.now words.old responses.old job.old (length answer.old) }
     ensures job_after { job.new ≡ entries.record_left image.now (length words.old) (length responses.old) job.old (length answer.old) }
 {
-    let own = check_read(job, answer.len());
-    let found = read(own, image, words, responses);
+    let found = match check_read(job, answer.len()) {
+        Ok(()) => reading::read(image, words, responses),
+        Err(why) => {
+            let other = reading::check_read(image, words.len(), responses.len());
+            Err(lower_of(why, other))
+        }
+    };
     keep_read(job, found);
     tell_read(answer, found)
 }
