@@ -55,6 +55,7 @@ pub fn check_panel(registers: &[u64]) -> Result<(), Refusal>
     ensures { result ≡ forms.panel_check registers.now }
 {
     refuse(Refusal::Size, registers.len() != PANEL_SIZE)?;
+    // Named one by one: these three are the registers of 8 bits.
     let narrow = too_narrow(registers, 5) | (too_narrow(registers, 6) | too_narrow(registers, 7));
     refuse(Refusal::PanelTooWide, narrow)
 }
@@ -144,7 +145,7 @@ pub fn number_of(why: Refusal) -> u32
     machine::number_of(why) as u32
 }
 
-// What resolution and show answer.
+// What resolution and show answer. Each kind of answer has a function like this one: the numbers told of each are of its own definition.
 pub const RESOLVED_SIZE: usize = 4;
 
 pub fn tell_resolved(answer: &mut [u64], found: Result<Option<WordSlice>, Refusal>) -> u32

@@ -40,6 +40,7 @@ fn work(
     ensures responses_after { responses.new ≡ (after_ended x f verdicts.now (machine width words.now responses.old)).responses }
 {
     let mut report = Report { done: 0, faulty: 0 };
+    // That the round goes on after each answer is proved of `taken`; a bare `loop` would leave it unsaid.
     let mut taken = true;
     while taken {
         let Ok(Some(word)) = show(words, responses, width, x) else {
