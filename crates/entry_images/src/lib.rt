@@ -18,12 +18,6 @@ use machine::{Refusal, Response, also_of};
 
 const WRITE_SIZE: usize = 3;
 
-fn check_write(job: &[u8], room: usize) -> Result<(), Refusal>
-    ensures { result ≡ entries.write_own job.now room }
-{
-    lower(check_held(job), check_room(WRITE_SIZE, room))
-}
-
 fn tell_wrote(answer: &mut [u64], wrote: Result<usize, Refusal>) -> u32
     ensures value { result ≡ (told_wrote wrote).refusal }
     ensures answer_after { answer.new ≡ tell_in (entries.write_numbers (told_wrote wrote)) answer.old }
@@ -55,7 +49,7 @@ pub extern "C" fn dushvaneth_write(
     ensures image_after { image.new ≡ entries.write_left (state width words.now responses.now (held_in job.now)) job.now image.old (length answer.old) }
 {
     let holds = held_of(job);
-    let wrote = match check_write(job, answer.len()) {
+    let wrote = match lower(check_held(job), check_room(WRITE_SIZE, answer.len())) {
         Ok(()) => writing::write(words, responses, width, holds, image),
         Err(why) => {
             let other = writing::check_write(words, responses, width, holds, image.len());
@@ -68,12 +62,6 @@ pub extern "C" fn dushvaneth_write(
 // ---- reading
 
 const READ_SIZE: usize = 5;
-
-fn check_read(job: &[u8], room: usize) -> Result<(), Refusal>
-    ensures { result ≡ entries.read_own job.now room }
-{
-    lower(check_record(job), check_room(READ_SIZE, room))
-}
 
 fn tell_read(answer: &mut [u64], found: Result<Loaded, Refusal>) -> u32
     ensures value { result ≡ (told_read found).refusal }
@@ -93,15 +81,6 @@ fn tell_read(answer: &mut [u64], found: Result<Loaded, Refusal>) -> u32
     }
 }
 
-// The record of the job that an image holds; as it was after a refusal.
-fn keep_read(job: &mut [u8], found: Result<Loaded, Refusal>)
-    ensures { job.new ≡ entries.read_in found job.old }
-{
-    if let Ok(loaded) = found {
-        put_record(job, loaded.held);
-    }
-}
-
 #[unsafe(no_mangle)]
 #[tactic(auto, unfolding(crate::specs::Entries::read_told, crate::specs::Entries::words_left, crate::specs::Entries::responses_left, crate::specs::Entries::record_left, crate::specs::Entries::read_entry, image::specs::Calls::read_of, image::specs::Calls::words_read, image::specs::Calls::responses_read))]
 pub extern "C" fn dushvaneth_read(
@@ -117,13 +96,16 @@ pub extern "C" fn dushvaneth_read(
     ensures responses_after { responses.new ≡ entries.responses_left image.now words.old responses.old job.old (length answer.old) }
     ensures job_after { job.new ≡ entries.record_left image.now (length words.old) (length responses.old) job.old (length answer.old) }
 {
-    let found = match check_read(job, answer.len()) {
+    let found = match lower(check_record(job), check_room(READ_SIZE, answer.len())) {
         Ok(()) => reading::read(image, words, responses),
         Err(why) => {
             let other = reading::check_read(image, words.len(), responses.len());
             Err(lower_of(why, other))
         }
     };
-    keep_read(job, found);
+    // the record of the job that an image holds; as it was after a refusal
+    if let Ok(loaded) = found {
+        put_record(job, loaded.held);
+    }
     tell_read(answer, found)
 }

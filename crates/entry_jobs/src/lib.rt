@@ -37,27 +37,11 @@ fn tell_one(answer: &mut [u64], given: Result<u64, Refusal>) -> u32
 
 const START_SIZE: usize = 3;
 
-fn check_start(held: &[u8], offered: &[u8], room: usize) -> Result<(), Refusal>
-    ensures { result ≡ entries.start_own held.now offered.now room }
-{
-    let rest = lower(check_record(offered), check_room(START_SIZE, room));
-    lower(check_held(held), rest)
-}
-
 fn tell_started(answer: &mut [u64], started: Result<Job, Refusal>) -> u32
     ensures value { result ≡ (told_started started).refusal }
     ensures answer_after { answer.new ≡ tell_in (entries.start_numbers (told_started started)) answer.old }
 {
     tell_one(answer, started.map(|_| 1))
-}
-
-// The record of the job that is held now; as it was after a refusal.
-fn keep_started(job: &mut [u8], started: Result<Job, Refusal>)
-    ensures { job.new ≡ entries.started_in started job.old }
-{
-    if let Ok(o) = started {
-        put_record(job, Some(o));
-    }
 }
 
 #[unsafe(no_mangle)]
@@ -76,26 +60,24 @@ pub extern "C" fn dushvaneth_start(
 {
     let holds = held_of(held);
     let offered = job_of(job);
-    let started = match check_start(held, job, answer.len()) {
+    let rest = lower(check_record(job), check_room(START_SIZE, answer.len()));
+    let started = match lower(check_held(held), rest) {
         Ok(()) => jobs::start(words, responses, width, holds, offered),
         Err(why) => {
             let other = jobs::check_start(words, responses, width, holds, offered);
             Err(lower_of(why, other))
         }
     };
-    keep_started(job, started);
+    // the record of the job that is held now; as it was after a refusal
+    if let Ok(o) = started {
+        put_record(job, Some(o));
+    }
     tell_started(answer, started)
 }
 
 // ---- step
 
 const STEP_SIZE: usize = 5 + PANEL_SIZE;
-
-fn check_step(job: &[u8], room: usize) -> Result<(), Refusal>
-    ensures { result ≡ entries.step_own job.now room }
-{
-    lower(check_held(job), check_room(STEP_SIZE, room))
-}
 
 fn tell_stepped(answer: &mut [u64], stepped: Result<Stepped, Refusal>) -> u32
     ensures value { result ≡ (told_stepped stepped).refusal }
@@ -134,15 +116,6 @@ fn tell_stepped(answer: &mut [u64], stepped: Result<Stepped, Refusal>) -> u32
     }
 }
 
-// The record of what is held after an accepted step.
-fn keep_stepped(job: &mut [u8], stepped: Result<Stepped, Refusal>)
-    ensures { job.new ≡ entries.stepped_in stepped job.old }
-{
-    if let Ok(step) = stepped {
-        put_record(job, step.held);
-    }
-}
-
 #[unsafe(no_mangle)]
 #[tactic(auto, unfolding(crate::specs::Entries::step_told, crate::specs::Entries::step_left, crate::specs::Entries::record_left, crate::specs::Entries::step_entry, jobs::specs::Calls::step_of, jobs::specs::Calls::after_step))]
 pub extern "C" fn dushvaneth_step(
@@ -159,26 +132,23 @@ pub extern "C" fn dushvaneth_step(
     ensures job_after { job.new ≡ entries.record_left (machine width words.old responses.old) job.old (length answer.old) }
 {
     let holds = held_of(job);
-    let stepped = match check_step(job, answer.len()) {
+    let stepped = match lower(check_held(job), check_room(STEP_SIZE, answer.len())) {
         Ok(()) => jobs::step(words, responses, width, holds),
         Err(why) => {
             let other = job_places::check_step(words, responses, width, holds);
             Err(lower_of(why, other))
         }
     };
-    keep_stepped(job, stepped);
+    // the record of what is held after an accepted step
+    if let Ok(step) = stepped {
+        put_record(job, step.held);
+    }
     tell_stepped(answer, stepped)
 }
 
 // ---- total
 
 const TOTAL_SIZE: usize = 3;
-
-fn check_total(job: &[u8], room: usize) -> Result<(), Refusal>
-    ensures { result ≡ entries.total_own job.now room }
-{
-    lower(check_held(job), check_room(TOTAL_SIZE, room))
-}
 
 #[unsafe(no_mangle)]
 #[tactic(auto, unfolding(crate::specs::Entries::total_told, job_tally::specs::Totals::total_of))]
@@ -193,7 +163,7 @@ pub extern "C" fn dushvaneth_total(
     ensures answer_after { answer.new ≡ tell_in (entries.total_numbers (entries.total_told (machine width words.now responses.now) job.now (length answer.old))) answer.old }
 {
     let holds = held_of(job);
-    let total = match check_total(job, answer.len()) {
+    let total = match lower(check_held(job), check_room(TOTAL_SIZE, answer.len())) {
         Ok(()) => totals::total(words, responses, width, holds),
         Err(why) => {
             let other = totals::check_total(words, responses, width, holds);
