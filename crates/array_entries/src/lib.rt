@@ -177,16 +177,9 @@ fn turn_down(
 
 // ---- the entries
 
-// The two machines, which answer alike.
-#[derive(Clone, Copy)]
-enum Built {
-    WordWide,
-    Plain,
-}
-
-impl Built {
+// What both machines do: they answer alike.
+trait Operates {
     fn operate(
-        self,
         ones: &mut [u64],
         xs: &mut [u64],
         selectors: &mut [u8],
@@ -197,20 +190,41 @@ impl Built {
         ensures value { result ≡ answer_of (array width ones.old xs.old selectors.old) registers operation }
         ensures ones_after { ones.new ≡ (after (array width ones.old xs.old selectors.old) registers operation).ones }
         ensures xs_after { xs.new ≡ (after (array width ones.old xs.old selectors.old) registers operation).xs }
-        ensures selectors_after { selectors.new ≡ (after (array width ones.old xs.old selectors.old) registers operation).selectors }
-    {
-        match self {
-            Built::WordWide => {
-                array_wide::operate(ones, xs, selectors, width, registers, operation)
-            }
-            Built::Plain => array_cells::operate(ones, xs, selectors, width, registers, operation),
-        }
+        ensures selectors_after { selectors.new ≡ (after (array width ones.old xs.old selectors.old) registers operation).selectors };
+}
+
+struct WordWide;
+
+impl Operates for WordWide {
+    fn operate(
+        ones: &mut [u64],
+        xs: &mut [u64],
+        selectors: &mut [u8],
+        width: u32,
+        registers: Registers,
+        operation: Operation,
+    ) -> Result<Answer, Refusal> {
+        array_wide::operate(ones, xs, selectors, width, registers, operation)
+    }
+}
+
+struct Plain;
+
+impl Operates for Plain {
+    fn operate(
+        ones: &mut [u64],
+        xs: &mut [u64],
+        selectors: &mut [u8],
+        width: u32,
+        registers: Registers,
+        operation: Operation,
+    ) -> Result<Answer, Refusal> {
+        array_cells::operate(ones, xs, selectors, width, registers, operation)
     }
 }
 
 #[tactic(auto, unfolding(crate::specs::Numbers::entry_told, crate::specs::Numbers::left, crate::specs::Numbers::registers_left))]
-fn operate(
-    built: Built,
+fn operate<M: Operates>(
     ones: &mut [u64],
     xs: &mut [u64],
     selectors: &mut [u8],
@@ -232,7 +246,7 @@ fn operate(
     let held = registers_of(registers);
     match order_of(code, answer.len()) {
         Ok(operation) => {
-            let given = built.operate(ones, xs, selectors, width, held, operation);
+            let given = M::operate(ones, xs, selectors, width, held, operation);
             settle(answer, registers, given)
         }
         Err(number) => turn_down(answer, ones, xs, selectors, width, held, number),
@@ -256,16 +270,7 @@ pub extern "C" fn dushvaneth_array_wide(
     ensures selectors_after { selectors.new ≡ (numbers.left (array width ones.old xs.old selectors.old) registers.old code (length answer.old)).selectors }
     ensures registers_after { registers.new ≡ numbers.registers_left (array width ones.old xs.old selectors.old) registers.old code (length answer.old) }
 {
-    operate(
-        Built::WordWide,
-        ones,
-        xs,
-        selectors,
-        registers,
-        width,
-        code,
-        answer,
-    )
+    operate::<WordWide>(ones, xs, selectors, registers, width, code, answer)
 }
 
 #[unsafe(no_mangle)]
@@ -285,14 +290,5 @@ pub extern "C" fn dushvaneth_array_cells(
     ensures selectors_after { selectors.new ≡ (numbers.left (array width ones.old xs.old selectors.old) registers.old code (length answer.old)).selectors }
     ensures registers_after { registers.new ≡ numbers.registers_left (array width ones.old xs.old selectors.old) registers.old code (length answer.old) }
 {
-    operate(
-        Built::Plain,
-        ones,
-        xs,
-        selectors,
-        registers,
-        width,
-        code,
-        answer,
-    )
+    operate::<Plain>(ones, xs, selectors, registers, width, code, answer)
 }

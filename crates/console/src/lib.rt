@@ -6,8 +6,8 @@ ghost use Rattle.text.specs.Words.{words_of};
 ghost use Rattle.console.specs.Obeying as obeying;
 
 use console_commands::{Board, Outcome, Turn};
-use console_pulsing::{Built, Way};
 use machine::Response;
+use machines::{Network, Plain, Scan, WordWide};
 use rounds::Verdict;
 use text::words;
 
@@ -138,8 +138,8 @@ fn mark(
     match words::which(b"word response pulse cells done faulty", name) {
         0 => console_setting::write_word(rest, words),
         1 => console_setting::write_response(rest, responses),
-        2 => console_pulsing::pulse(board, Built::WordWide, rest, words, responses),
-        3 => console_pulsing::pulse(board, Built::Plain, rest, words, responses),
+        2 => console_pulsing::pulse::<WordWide>(board, rest, words, responses),
+        3 => console_pulsing::pulse::<Plain>(board, rest, words, responses),
         4 => console_pulsing::answer(board, rest, words, responses, Verdict::Done),
         5 => console_pulsing::answer(board, rest, words, responses, Verdict::Faulty),
         _ => look(board, name, rest, words, responses, bytes),
@@ -160,8 +160,8 @@ fn look(
 {
     match words::which(b"panel resolve tree show total store list room why", name) {
         0 => console_setting::tell_panel(board, rest),
-        1 => console_pulsing::resolve(board, Way::Scan, rest, words, responses),
-        2 => console_pulsing::resolve(board, Way::Network, rest, words, responses),
+        1 => console_pulsing::resolve::<Scan>(board, rest, words, responses),
+        2 => console_pulsing::resolve::<Network>(board, rest, words, responses),
         3 => console_pulsing::show(board, rest, words, responses),
         4 => console_working::total(board, rest, words, responses),
         5 => console_storing::store(board, rest, words, responses, bytes, false),

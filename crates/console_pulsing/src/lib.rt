@@ -11,6 +11,7 @@ ghost use Rattle.console_pulsing.specs.Calls as calls;
 
 use console_commands::{Board, Outcome};
 use machine::{Lines, Refusal, Response, ResponseBit, WordSlice};
+use machines::{Pulses, Resolves};
 use rounds::Verdict;
 use text::{arguments, numbers};
 
@@ -83,17 +84,9 @@ fn read_lines(rest: &[u8]) -> Option<Lines>
     Some(lines)
 }
 
-// The two machines, which answer alike.
-#[derive(Clone, Copy)]
-pub enum Built {
-    WordWide,
-    Plain,
-}
-
 // pulse L.. and cells L..
-pub fn pulse(
+pub fn pulse<M: Pulses>(
     board: Board,
-    built: Built,
     rest: &[u8],
     words: &mut [u64],
     responses: &mut [Response],
@@ -105,11 +98,7 @@ pub fn pulse(
     let Some(lines) = read_lines(rest) else {
         return Outcome::BadLine;
     };
-    let answer = match built {
-        Built::WordWide => wide::pulse(words, responses, board.width, board.panel, lines),
-        Built::Plain => cells::pulse(words, responses, board.width, board.panel, lines),
-    };
-    match answer {
+    match M::pulse(words, responses, board.width, board.panel, lines) {
         Ok(done) => Outcome::Pulsed {
             count: done.count,
             read: done.read,
@@ -128,17 +117,9 @@ fn resolved(found: Result<Option<WordSlice>, Refusal>) -> Outcome
     }
 }
 
-// The two ways to resolve, which answer alike.
-#[derive(Clone, Copy)]
-pub enum Way {
-    Scan,
-    Network,
-}
-
 // resolve and tree
-pub fn resolve(
+pub fn resolve<W: Resolves>(
     board: Board,
-    way: Way,
     rest: &[u8],
     words: &[u64],
     responses: &[Response],
@@ -149,10 +130,7 @@ pub fn resolve(
         return Outcome::BadLine;
     }
     let panel = board.panel;
-    resolved(match way {
-        Way::Scan => resolver::scan(words, responses, board.width, panel.key, panel.care),
-        Way::Network => resolver::network(words, responses, board.width, panel.key, panel.care),
-    })
+    resolved(W::resolve(words, responses, board.width, panel.key, panel.care))
 }
 
 // why I

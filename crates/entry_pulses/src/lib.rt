@@ -16,7 +16,8 @@ use entry_forms::{
     panel_of, tell, tell_resolved,
 };
 use explainer::Reason;
-use machine::{Answer, Lines, Panel, Refusal, Response, WordSlice, also_of, check_machine, refuse};
+use machine::{Answer, Panel, Refusal, Response, WordSlice, also_of, check_machine, refuse};
+use machines::{Network, Plain, Pulses, Resolves, Scan, WordWide};
 
 // ---- the panel's load
 
@@ -92,52 +93,8 @@ fn tell_pulse(answer: &mut [u64], given: Result<Answer, Refusal>) -> u32
     }
 }
 
-// The two machines, which answer alike.
-#[derive(Clone, Copy)]
-enum Built {
-    WordWide,
-    Plain,
-}
-
-impl Built {
-    fn check(
-        self,
-        words: &[u64],
-        responses: &[Response],
-        width: u32,
-        panel: Panel,
-        lines: Lines,
-    ) -> Result<(), Refusal>
-        ensures { result ≡ pulse_check (machine width words.now responses.now) panel lines }
-    {
-        match self {
-            Built::WordWide => wide::check(words, responses, width, panel, lines),
-            Built::Plain => cells::check(words, responses, width, panel, lines),
-        }
-    }
-
-    fn pulse(
-        self,
-        words: &mut [u64],
-        responses: &mut [Response],
-        width: u32,
-        panel: Panel,
-        lines: Lines,
-    ) -> Result<Answer, Refusal>
-        ensures value { result ≡ answer_of (machine width words.old responses.old) panel lines }
-        ensures words_after { words.new ≡ (after (machine width words.old responses.old) panel lines).words }
-        ensures responses_after { responses.new ≡ (after (machine width words.old responses.old) panel lines).responses }
-    {
-        match self {
-            Built::WordWide => wide::pulse(words, responses, width, panel, lines),
-            Built::Plain => cells::pulse(words, responses, width, panel, lines),
-        }
-    }
-}
-
 #[tactic(auto, unfolding(crate::specs::Entries::pulse_entry, crate::specs::Entries::pulse_told, crate::specs::Entries::pulse_left, machine::specs::Refusals::answer_of, machine::specs::Refusals::after))]
-fn pulse(
-    built: Built,
+fn pulse<M: Pulses>(
     words: &mut [u64],
     responses: &mut [Response],
     width: u32,
@@ -153,9 +110,9 @@ fn pulse(
     let panel = panel_of(registers);
     let raised = lines_of(lines);
     let given = match check_pulse(registers, lines, answer.len()) {
-        Ok(()) => built.pulse(words, responses, width, panel, raised),
+        Ok(()) => M::pulse(words, responses, width, panel, raised),
         Err(why) => {
-            let other = built.check(words, responses, width, panel, raised);
+            let other = M::check(words, responses, width, panel, raised);
             Err(lower_of(why, other))
         }
     };
@@ -176,15 +133,7 @@ pub extern "C" fn dushvaneth_wide_pulse(
     ensures words_after { words.new ≡ (entries.pulse_left (machine width words.old responses.old) registers.now lines (length answer.old)).words }
     ensures responses_after { responses.new ≡ (entries.pulse_left (machine width words.old responses.old) registers.now lines (length answer.old)).responses }
 {
-    pulse(
-        Built::WordWide,
-        words,
-        responses,
-        width,
-        registers,
-        lines,
-        answer,
-    )
+    pulse::<WordWide>(words, responses, width, registers, lines, answer)
 }
 
 #[unsafe(no_mangle)]
@@ -201,15 +150,7 @@ pub extern "C" fn dushvaneth_cells_pulse(
     ensures words_after { words.new ≡ (entries.pulse_left (machine width words.old responses.old) registers.now lines (length answer.old)).words }
     ensures responses_after { responses.new ≡ (entries.pulse_left (machine width words.old responses.old) registers.now lines (length answer.old)).responses }
 {
-    pulse(
-        Built::Plain,
-        words,
-        responses,
-        width,
-        registers,
-        lines,
-        answer,
-    )
+    pulse::<Plain>(words, responses, width, registers, lines, answer)
 }
 
 // ---- the explainer
@@ -277,16 +218,8 @@ pub extern "C" fn dushvaneth_explain(
 
 // ---- resolution
 
-// The two ways to resolve, which answer alike.
-#[derive(Clone, Copy)]
-enum Way {
-    Scan,
-    Network,
-}
-
 #[tactic(auto, unfolding(crate::specs::Entries::resolved_told, resolver::specs::Answers::resolution))]
-fn resolve(
-    way: Way,
+fn resolve<W: Resolves>(
     words: &[u64],
     responses: &[Response],
     width: u32,
@@ -298,10 +231,7 @@ fn resolve(
     ensures answer_after { answer.new ≡ tell_in (resolved_numbers (entries.resolved_told key care (machine width words.now responses.now) (length answer.old))) answer.old }
 {
     let found = match check_room(RESOLVED_SIZE, answer.len()) {
-        Ok(()) => match way {
-            Way::Scan => resolver::scan(words, responses, width, key, care),
-            Way::Network => resolver::network(words, responses, width, key, care),
-        },
+        Ok(()) => W::resolve(words, responses, width, key, care),
         Err(why) => Err(lower_of(why, check_machine(words, responses, width))),
     };
     tell_resolved(answer, found)
@@ -319,7 +249,7 @@ pub extern "C" fn dushvaneth_scan(
     ensures value { result ≡ (entries.resolved_told key care (machine width words.now responses.now) (length answer.old)).refusal }
     ensures answer_after { answer.new ≡ tell_in (resolved_numbers (entries.resolved_told key care (machine width words.now responses.now) (length answer.old))) answer.old }
 {
-    resolve(Way::Scan, words, responses, width, key, care, answer)
+    resolve::<Scan>(words, responses, width, key, care, answer)
 }
 
 #[unsafe(no_mangle)]
@@ -334,5 +264,5 @@ pub extern "C" fn dushvaneth_network(
     ensures value { result ≡ (entries.resolved_told key care (machine width words.now responses.now) (length answer.old)).refusal }
     ensures answer_after { answer.new ≡ tell_in (resolved_numbers (entries.resolved_told key care (machine width words.now responses.now) (length answer.old))) answer.old }
 {
-    resolve(Way::Network, words, responses, width, key, care, answer)
+    resolve::<Network>(words, responses, width, key, care, answer)
 }

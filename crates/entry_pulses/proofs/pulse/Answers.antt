@@ -12,7 +12,7 @@ use Rattle.entry_pulses.proofs.pulse.Goals as goal
 
 pub returns-clause-value : goal.returns-clause-value
 unfolding pulse_told
-returns-clause-value c =
+returns-clause-value g c =
     let a = c.args in
     let m = machine a.width a.words.now a.responses.now in
     let given : c.match-check_pulse.given ≡ pulse_given m a.registers.now a.lines (length a.answer.now) = elim c.match-check_pulse.branch [
@@ -24,7 +24,7 @@ returns-clause-value c =
 
 pub returns-clause-answer_after : goal.returns-clause-answer_after
 unfolding pulse_told
-returns-clause-answer_after c =
+returns-clause-answer_after g c =
     let a = c.args in
     let m = machine a.width a.words.now a.responses.now in
     let given : c.match-check_pulse.given ≡ pulse_given m a.registers.now a.lines (length a.answer.now) = elim c.match-check_pulse.branch [
