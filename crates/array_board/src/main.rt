@@ -3,7 +3,7 @@
 // end of the input does.
 #![tactic(auto)]
 
-ghost use Rattle.array_board.specs.Taking.{stands_after};
+ghost use Rattle.array_board.specs.Taking.{stands_after, prints};
 
 use array_console::{Outcome, Rack};
 use serving::Console;
@@ -20,6 +20,8 @@ struct Standing {
 
 impl Console for Standing {
     ghost obeyed = { stands_after };
+
+    ghost answered = { prints };
 
     fn obey(&mut self, line: &[u8], out: &mut [u8]) -> usize {
         let turn = array_console::obey(

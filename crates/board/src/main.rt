@@ -2,7 +2,7 @@
 // and prints the answer before it reads the next. docs/BOARD.md teaches it. Bad lines never stop it; the end of the input does.
 #![tactic(auto)]
 
-ghost use Rattle.board.specs.Taking.{stands_after};
+ghost use Rattle.board.specs.Taking.{stands_after, prints};
 
 use console_commands::{Board, Outcome};
 use machine::Response;
@@ -20,6 +20,8 @@ struct Standing {
 
 impl Console for Standing {
     ghost obeyed = { stands_after };
+
+    ghost answered = { prints };
 
     fn obey(&mut self, line: &[u8], out: &mut [u8]) -> usize {
         let turn = console::obey(

@@ -4,7 +4,8 @@
 
 ghost use Rattle.std.specs.Prelude.{◌≡◌, ℕ, ◌≤◌, List, length};
 ghost use Rattle.text.specs.Words.{words_of};
-ghost use Rattle.serving.specs.Taking.{taken};
+ghost use Rattle.output.specs.Puts.{Puts};
+ghost use Rattle.serving.specs.Taking.{taken, bad_line};
 
 use lines::Line;
 use std::io;
@@ -12,14 +13,18 @@ use std::io::{Read, Write};
 
 // A console obeys lines, one after the other. It puts an answer from the start of a lent buffer, and says how many bytes it has.
 pub trait Console {
-    // what stands after a line of these words
+    // what stands after a line of these words, and what is printed of it
     ghost obeyed: { Self → List (List ℕ) → Self };
 
-    fn obey(&mut self, line: &[u8], out: &mut [u8]) -> usize
-        ensures { self.new ≡ obeyed self.old (words_of line.now) };
+    ghost answered: { Self → List (List ℕ) → List ℕ };
 
-    // The answer to a line that it does not look at.
-    fn bad_line(&self, out: &mut [u8]) -> usize;
+    fn obey(&mut self, line: &[u8], out: &mut [u8]) -> usize
+        ensures stands { self.new ≡ obeyed self.old (words_of line.now) }
+        ensures prints { Puts (answered self.old (words_of line.now)) 0 out.old out.new result };
+
+    // The answer to a line that it does not look at, since it is too long.
+    fn bad_line(&self, out: &mut [u8]) -> usize
+        ensures { Puts bad_line 0 out.old out.new result };
 }
 
 // "A line with no word, and one whose first byte is `#`, prints nothing, however long"; any other that is too long is a bad one.
