@@ -9,7 +9,7 @@ ghost use Rattle.resolver.specs.Answers.{resolution};
 
 use machine::{Answer, Lines, Panel, Refusal, Response, WordSlice};
 
-// ---- the machines: "They give the same answers and leave the same machine."
+// ---- the machines: "the word-wide one agrees with it"
 
 pub trait Pulses {
     fn check(

@@ -9,6 +9,6 @@ use Rattle.lines.specs.Silence.{passed_over}
 unfoldable pub taken : {C : Type 0} → (C → List (List ℕ) → C) → C → Line → List ℕ → C
 taken obeyed console line kept = pick (passed_over line kept) console (obeyed console (words_of kept))
 
--- "any other that is too long is a bad one": what is printed of it
+-- "more than 20,000 bytes before its newline, prints `bad line` and changes nothing": the text
 abbrev pub bad_line : List ℕ
 bad_line = ascii "bad line" ++ (10 ∷ [])
