@@ -97,11 +97,12 @@ fn turn_all(
 
 // ---- the checks 1 to 7
 
+#[tactic(auto, using(machine::proofs::Refusals::width_le), unfolding(machine::specs::Refusals::bad_codes))]
 fn bad_codes(width: u32, panel: Panel, lines: Lines) -> bool
     requires { bad_width width ≡ false }
     ensures { result ≡ bad_codes width panel lines }
 {
-    lines.search & !search::all_unmixed(width, panel)
+    lines.search && !search::all_unmixed(width, panel)
 }
 
 #[tactic(auto, using(machine::proofs::Refusals::handed), unfolding(machine::specs::Refusals::pulse_check))]

@@ -47,11 +47,12 @@ fn has_code(panel: Panel, y: Syllable, wanted: Code) -> bool
 }
 
 // Whether the bits of a syllable that are cared for carry one code.
+#[tactic(auto, unfolding(machine::specs::Search::one_code))]
 fn has_one_code(panel: Panel, y: Syllable) -> bool
     ensures { result ≡ one_code panel (syllable y.low y.width) }
 {
     has_code(panel, y, Code::Exact)
-        | (has_code(panel, y, Code::Larger) | has_code(panel, y, Code::Smaller))
+        || (has_code(panel, y, Code::Larger) || has_code(panel, y, Code::Smaller))
 }
 
 fn or_setting(code: Code, equal: bool, wanted: bool) -> bool
@@ -84,18 +85,17 @@ fn is_compared_only(panel: Panel, y: Syllable) -> bool
 }
 
 // Whether the bits of a syllable that are cared for have one setting of SC3, and no other bit has a one of it.
+#[tactic(auto, unfolding(machine::specs::Search::one_setting))]
 fn has_one_setting(panel: Panel, y: Syllable) -> bool
     ensures { result ≡ (one_setting panel (syllable y.low y.width) && compared_only panel (syllable y.low y.width)) }
 {
-    let unset = has_setting(panel, y, false);
-    let set = has_setting(panel, y, true);
-    (unset | set) & is_compared_only(panel, y)
+    (has_setting(panel, y, false) || has_setting(panel, y, true)) && is_compared_only(panel, y)
 }
 
 fn is_unmixed(panel: Panel, y: Syllable) -> bool
     ensures { result ≡ unmixed panel (syllable y.low y.width) }
 {
-    has_one_code(panel, y) & has_one_setting(panel, y)
+    has_one_code(panel, y) && has_one_setting(panel, y)
 }
 
 // At bit i: the syllable that it starts, or true where it starts none.
