@@ -114,7 +114,7 @@ fn write_selectors(rest: &[u8], selectors: &mut [u8]) -> Outcome
 fn load(rack: Rack, rest: &[u8]) -> Turn
     ensures { result ≡ commands.loaded rack (words_of rest.now) }
 {
-    let Some(register) = choose(rest, 0, b"r1 r2 m", 3) else {
+    let Ok(register) = choose(rest, 0, b"r1 r2 m", 3) else {
         return ended(rack, Outcome::BadLine);
     };
     let Some(row) = arguments::read(&rest[register.to..], b"x") else {

@@ -1,5 +1,5 @@
 -- An operation on the array as a line of docs/BOARD.md writes it: `args` are the words behind the command's name, one for each choice.
-use Rattle.std.specs.Prelude.{ℕ, Bool, true, false, ◌&&◌, List, [], ◌∷◌, ltb, eqb, length, get_or, Option, Some, None}
+use Rattle.std.specs.Prelude.{ℕ, Bool, true, false, ◌&&◌, List, [], ◌∷◌, ltb, eqb, length, get_or, Option, Some, None, Result, Ok, Err}
 use Prim.Native.String.{String}
 use Rattle.laws.specs.Bits.{pick}
 use Rattle.text.specs.Ascii.{ascii}
@@ -26,6 +26,11 @@ use Rattle.array.specs.declared.Operation.{Operation}
 use Rattle.array.specs.declared.Operation.TheVariants.{Search, Read, Write}
 
 -- ---- a word among the names of a choice
+
+-- what was found, whether it is one of the names or not
+abbrev pub either : {A : Type 0} → Result A A → A
+either (Ok x) = x
+either (Err x) = x
 
 abbrev pub place_in : String → List ℕ → ℕ
 place_in names word = place_of word (words_of (ascii names))

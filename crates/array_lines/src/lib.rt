@@ -1,7 +1,7 @@
 // An operation on the array as a line of the console writes it: a word for each choice. docs/BOARD.md has the language.
 #![tactic(auto)]
 
-ghost use Rattle.std.specs.Prelude.{◌≡◌, [], ◌≤◌, ltb, length, get_or, drop, is_some, IfSome};
+ghost use Rattle.std.specs.Prelude.{◌≡◌, [], ◌≤◌, ltb, length, get_or, drop, is_ok, is_some, IfSome};
 ghost use Rattle.text.specs.Words.{words_of, place_of};
 ghost use Rattle.array_lines.specs.Choices as choices;
 
@@ -15,19 +15,29 @@ pub struct Choice {
     pub to: usize,
 }
 
+// The next word at or after `at` among `most` names: which of them it is, or that it is none of these, and where it ends all the same.
+pub fn choose(line: &[u8], at: usize, names: &[u8], most: usize) -> Result<Choice, Choice>
+    requires { at ≤ length line.now }
+    ensures place_value { ((choices.either result).place ≡ place_of (get_or (words_of (drop at line.now)) 0 []) (words_of names.now)) × (is_ok result ≡ ltb (choices.either result).place most) }
+    ensures to_in_bounds { ((choices.either result).to ≤ length line.now) × (words_of (drop (choices.either result).to line.now) ≡ drop 1 (words_of (drop at line.now))) }
+{
+    let word = words::next(line, at);
+    let place = words::which(names, &line[word.from..word.to]);
+    let choice = Choice { place, to: word.to };
+    if most <= place {
+        return Err(choice);
+    }
+    Ok(choice)
+}
+
 // The next word at or after `at`, if it is one of the first `most` names.
-pub fn choose(line: &[u8], at: usize, names: &[u8], most: usize) -> Option<Choice>
+fn chosen(line: &[u8], at: usize, names: &[u8], most: usize) -> Option<Choice>
     requires { at ≤ length line.now }
     ensures right_value { is_some result ≡ ltb (place_of (get_or (words_of (drop at line.now)) 0 []) (words_of names.now)) most }
     ensures place_value { IfSome result (λ choice. choice.place ≡ place_of (get_or (words_of (drop at line.now)) 0 []) (words_of names.now)) }
     ensures to_in_bounds { IfSome result (λ choice. (choice.to ≤ length line.now) × (words_of (drop choice.to line.now) ≡ drop 1 (words_of (drop at line.now)))) }
 {
-    let word = words::next(line, at);
-    let place = words::which(names, &line[word.from..word.to]);
-    if most <= place {
-        return None;
-    }
-    Some(Choice { place, to: word.to })
+    choose(line, at, names, most).ok()
 }
 
 // ---- each choice, by the place of its name
@@ -122,11 +132,11 @@ pub fn kind_at(place: usize) -> Kind
 pub fn search_of(line: &[u8]) -> Option<Operation>
     ensures { result ≡ choices.search_line (words_of line.now) }
 {
-    let source = choose(line, 0, b"r1 r2", 2)?;
-    let mask = choose(line, source.to, b"m ones zeros", 3)?;
-    let wanted = choose(line, mask.to, b"agree disagree", 2)?;
-    let destination = choose(line, wanted.to, b"p s", 2)?;
-    let combine = choose(line, destination.to, b"replace and or", 3)?;
+    let source = chosen(line, 0, b"r1 r2", 2)?;
+    let mask = chosen(line, source.to, b"m ones zeros", 3)?;
+    let wanted = chosen(line, mask.to, b"agree disagree", 2)?;
+    let destination = chosen(line, wanted.to, b"p s", 2)?;
+    let combine = chosen(line, destination.to, b"replace and or", 3)?;
     if !words::none_left(line, combine.to) {
         return None;
     }
@@ -142,10 +152,10 @@ pub fn search_of(line: &[u8]) -> Option<Operation>
 pub fn read_of(line: &[u8]) -> Option<Operation>
     ensures { result ≡ choices.read_line (words_of line.now) }
 {
-    let selector = choose(line, 0, b"p s none", 3)?;
-    let form = choose(line, selector.to, b"true complement", 2)?;
-    let sink = choose(line, form.to, b"r1 r2 m", 3)?;
-    let mask = choose(line, sink.to, b"m ones zeros", 3)?;
+    let selector = chosen(line, 0, b"p s none", 3)?;
+    let form = chosen(line, selector.to, b"true complement", 2)?;
+    let sink = chosen(line, form.to, b"r1 r2 m", 3)?;
+    let mask = chosen(line, sink.to, b"m ones zeros", 3)?;
     if !words::none_left(line, mask.to) {
         return None;
     }
@@ -160,11 +170,11 @@ pub fn read_of(line: &[u8]) -> Option<Operation>
 pub fn write_of(line: &[u8]) -> Option<Operation>
     ensures { result ≡ choices.write_line (words_of line.now) }
 {
-    let kind = choose(line, 0, b"normal special", 2)?;
-    let source = choose(line, kind.to, b"r1 r2", 2)?;
-    let mask = choose(line, source.to, b"m ones zeros", 3)?;
-    let selector = choose(line, mask.to, b"p s none", 3)?;
-    let form = choose(line, selector.to, b"true complement", 2)?;
+    let kind = chosen(line, 0, b"normal special", 2)?;
+    let source = chosen(line, kind.to, b"r1 r2", 2)?;
+    let mask = chosen(line, source.to, b"m ones zeros", 3)?;
+    let selector = chosen(line, mask.to, b"p s none", 3)?;
+    let form = chosen(line, selector.to, b"true complement", 2)?;
     if !words::none_left(line, form.to) {
         return None;
     }

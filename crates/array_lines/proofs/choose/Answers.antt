@@ -4,19 +4,19 @@ use borrow.Author.Rules.{rules}
 use Rattle.array_lines.proofs.Names.{word_here, words_behind}
 use Rattle.array_lines.proofs.choose.Goals as goal
 
-pub returns-then-most-place-clause-right_value : goal.returns-then-most-place-clause-right_value
-returns-then-most-place-clause-right_value c =
+pub returns-then-most-place-clause-place_value : goal.returns-then-most-place-clause-place_value
+returns-then-most-place-clause-place_value c =
     let a = c.args in let n = c.next-word in
-    rw (← word_here a.line.now a.at n.result n.ensures.value c.requires, ← c.which-place.ensures) (sym (le-ltb _ _ c.if-most-place.true))
+    (c.which-place.ensures ∙ (rw (word_here a.line.now a.at n.result n.ensures.value c.requires)), sym (le-ltb _ _ c.if-most-place.true))
 
-pub returns-clause-right_value : goal.returns-clause-right_value
-returns-clause-right_value c =
-    let a = c.args in let n = c.next-word in
-    rw (← word_here a.line.now a.at n.result n.ensures.value c.requires, ← c.which-place.ensures) (sym (lt-ltb _ _ c.if-most-place.false))
+pub returns-then-most-place-clause-to_in_bounds : goal.returns-then-most-place-clause-to_in_bounds
+returns-then-most-place-clause-to_in_bounds c =
+    let a = c.args in let n = c.next-word in (search rules, words_behind a.line.now a.at n.result n.ensures.value c.requires)
 
 pub returns-clause-place_value : goal.returns-clause-place_value
 returns-clause-place_value c =
-    let a = c.args in let n = c.next-word in c.which-place.ensures ∙ (rw (word_here a.line.now a.at n.result n.ensures.value c.requires))
+    let a = c.args in let n = c.next-word in
+    (c.which-place.ensures ∙ (rw (word_here a.line.now a.at n.result n.ensures.value c.requires)), sym (lt-ltb _ _ c.if-most-place.false))
 
 pub returns-clause-to_in_bounds : goal.returns-clause-to_in_bounds
 returns-clause-to_in_bounds c =
