@@ -47,17 +47,15 @@ numbers_are (suc n) (x ∷ b) h =
     let e : x ≡ x + 256 * 0 = omega arith in
     rw (← e) (ap (λ (r : List ℕ). x ∷ r) (numbers_are n b (omega arith)))
 
-pub copied_length : (d b : List ℕ) (at n : ℕ) → n ≤ length d → at + n ≤ length b → length (take n d) ≡ length (take (at + n - at) (drop at b))
+pub copied : (d b : List ℕ) (at n : ℕ) → at + n ≤ length b → sets d 0 (take (at + n - at) (drop at b)) ≡ sets d 0 (numbers response_size n (drop at b))
+copied d b at n h =
+    let k : at + n - at ≡ n = omega arith in
+    rw k (ap (sets d 0) (numbers_are n (drop at b) (omega (arith, length-drop at b))))
+
+pub copied_length : (d b : List ℕ) (at n : ℕ) → n ≤ length d → at + n ≤ length b → 0 + length (take (at + n - at) (drop at b)) ≤ length d
 copied_length d b at n h g =
     let k : at + n - at ≡ n = omega arith in
-    rw k (length-take-le n d h ∙ sym (length-take-le n (drop at b) (omega (arith, length-drop at b))))
-
-pub copied : (d b x : List ℕ) (at n : ℕ) → n ≤ length d → at + n ≤ length b → x ≡ take (at + n - at) (drop at b)
-    → x ++ drop n d ≡ sets d 0 (numbers response_size n (drop at b))
-copied d b x at n h g e =
-    let k : at + n - at ≡ n = omega arith in
-    let f : x ≡ numbers response_size n (drop at b) = rw k at e ∙ numbers_are n (drop at b) (omega (arith, length-drop at b)) in
-    rw f (put_first d _ n (length_numbers response_size n (drop at b)) h)
+    rw (k, length-take-le n (drop at b) (omega (arith, length-drop at b))) (omega arith)
 
 -- ---- the call
 

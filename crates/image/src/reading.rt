@@ -46,7 +46,7 @@ pub fn read(image: &[u8], words: &mut [u64], responses: &mut [Response]) -> Resu
     let responses_at = image_layout::responses_at(n) + COUNT_SIZE;
     fill_words(image, WORDS_AT + COUNT_SIZE, &mut words[..n]);
     // Each is one byte: as they are.
-    responses[..n].copy_from_slice(&image[responses_at..responses_at + n]);
+    image_stores::put_bytes(responses, 0, &image[responses_at..responses_at + n]);
     Ok(Loaded {
         width: image_fields::width_in(image),
         words: n,

@@ -7,7 +7,6 @@ use native.Mathlib.Numerals.{add-one}
 use native.Mathlib.Omega.{arith}
 use lib.ListN.{length, take, drop, get_or, set}
 use lib.Seq.{sets, sets-eq, drop-cons, drop-drop, drop-length}
-use borrow.Rule.Slice.PartMut.{put_mid}
 use Rattle.std.specs.Prelude.{Some, None}
 use Rattle.machine.specs.Machine.{Machine}
 use Rattle.job_plans.specs.declared.Job.{Job}
@@ -36,10 +35,14 @@ put_turn d at k x j h =
     rw (e, f)
 
 -- ---- bytes as they are
-pub list_stored : (d x : List ℕ) (at : ℕ) (s : List ℕ) → at + length s ≤ length d → x ≡ s → put_mid at (at + length s - at) d x ≡ sets d at s
-list_stored d x at s h g =
-    let e : at + length s - at ≡ length s = omega arith in
-    rw (e, g, drop-drop) (sym (sets-eq s d at h ∙ append_assoc (take at d) s (drop (at + length s) d)))
+pub list_turn : (d : List ℕ) (at : ℕ) (s : List ℕ) (i : ℕ) → i < length s
+    → sets d (at + i) (drop i s) ≡ sets (set d (at + i) (get_or s i 0)) (at + (i + 1)) (drop (i + 1) s)
+list_turn d at s i h =
+    let f : at + (i + 1) ≡ suc (at + i) = omega arith in
+    rw (drop-cons s i 0, f, add-one)
+
+pub list_none : (d : List ℕ) (at : ℕ) (s : List ℕ) → sets d at (drop (length s) s) ≡ d
+list_none d at s = rw drop-length
 
 -- so are numbers of one byte each
 pub as_they_are : (s : List ℕ) → ((i : ℕ) → get_or s i 0 < 256) → s ≡ items (bytes response_size) s

@@ -38,14 +38,15 @@ fn put_words(out: &mut [u8], at: usize, words: &[u64]) -> usize
     place
 }
 
-// Bytes as they are.
-fn put_bytes(out: &mut [u8], at: usize, list: &[u8]) -> usize
+// Bytes as they are. They go over one by one: for a copy of all at once the archive for C would want `memmove` from outside.
+pub fn put_bytes(out: &mut [u8], at: usize, list: &[u8]) -> usize
     requires { at + length list.now ≤ length out.old }
     ensures { (result ≡ at + length list.now) × (out.new ≡ sets out.old at list.now) }
 {
-    let end = at + list.len();
-    out[at..end].copy_from_slice(list);
-    end
+    for i in 0..list.len() {
+        out[at + i] = list[i];
+    }
+    at + list.len()
 }
 
 // The three sections before the job.

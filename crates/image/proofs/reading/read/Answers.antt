@@ -24,7 +24,7 @@ returns c =
     let g = room b n.result (length a.words.now) (length a.responses.now) c.in_ok-check_read.ensures n.ensures in
     let e = c.responses_at-responses_at.ensures in
     let ws = filled word_size a.words.now (drop (items_at words_at) b) c.fill_words.new.words n.result g.words c.fill_words.ensures in
-    let rs = copied a.responses.now b c.copy_from_slice.new.self (c.responses_at-responses_at.result + count_size) n.result g.responses (omega (arith, g.room, e)) c.copy_from_slice.ensures.after in
+    let rs = c.put_bytes.ensures.1 ∙ copied a.responses.now b (c.responses_at-responses_at.result + count_size) n.result (omega (arith, g.room, e)) in
     let q = read_done b a.words.now a.responses.now _ _ _ n.result _ c.in_ok-check_read.ensures c.width_in.ensures n.ensures
     (c.held_at.ensures ∙ ap (λ (q : ℕ). held_of (records (number_at count_size q b) (drop (items_at q) b))) c.jobs_at.ensures)
     ws
