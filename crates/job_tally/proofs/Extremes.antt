@@ -3,7 +3,6 @@ use Prim.Native.Nat.{ℕ, ◌-◌, ◌/◌, ◌%◌, ◌^◌, ◌≤◌, ◌<◌
 use mathlib.Core.Path.{◌≡◌, refl, sym, ap, ◌∙◌}
 use mathlib.Core.Bool.{Bool, true, false}
 use mathlib.Core.List.{List, [], ◌∷◌}
-use mathlib.Core.Logic.{◌⊎◌, inl, inr}
 use native.Mathlib.Nat.{mod-lt}
 use native.Mathlib.Omega.{arith}
 use lib.Pow.{pow_pos}
@@ -89,14 +88,13 @@ module _ (o : Job) (small : Bool) (ws rs : List ℕ) where
         whole = rw d (one_more top small c best v (values o left right)) ∙ rw (e.0, e.1) at s.whole;
       }
 
-  none_left : (left right : List ℕ) → (length left ≡ 0) ⊎ (length right ≡ 0) → values o left right ≡ []
+  none_left : (left right : List ℕ) → min (length left) (length right) ≡ 0 → values o left right ≡ []
   unfolding values
   none_left [] right h = refl
   none_left (w ∷ left) [] h = refl
-  none_left (w ∷ left) (r ∷ right) (inl h) = absurd (omega arith)
-  none_left (w ∷ left) (r ∷ right) (inr h) = absurd (omega arith)
+  none_left (w ∷ left) (r ∷ right) h = absurd (omega arith)
 
-  pub done : (best : ℕ) (left right : List ℕ) → Seen o small ws rs left right best → (length left ≡ 0) ⊎ (length right ≡ 0)
+  pub done : (best : ℕ) (left right : List ℕ) → Seen o small ws rs left right best → min (length left) (length right) ≡ 0
       → (best ≡ extreme small (2 ^ o.a.width - 1) (values o ws rs)) × (best < 2 ^ o.a.width)
   done best left right s h = (
     sym (last (2 ^ o.a.width - 1) small best s.fits)

@@ -37,14 +37,16 @@ fn with_word(o: Job, small: bool, best: u64, w: u64, r: Response) -> u64
 }
 
 // The smallest or the greatest of A's values in the words that the criterion selects; where there is none, all ones or 0.
+// By an index: a `zip` of the two takes half as much again.
 fn extreme_of(words: &[u64], responses: &[Response], o: Job, small: bool, none: u64) -> u64
     requires width_nonzero { (0 < o.a.width) × (o.a.low.0 + o.a.width ≤ 64) }
     requires none_value { none ≡ pick small (2 ^ o.a.width - 1) 0 }
     ensures { (result ≡ pick small (smallest_of (2 ^ o.a.width - 1) (values o words.now responses.now)) (greatest_of (values o words.now responses.now))) × (result < 2 ^ o.a.width) }
 {
     let mut best = none;
-    for (word, response) in words.iter().zip(responses) {
-        best = with_word(o, small, best, *word, *response);
+    let n = words.len().min(responses.len());
+    for k in 0..n {
+        best = with_word(o, small, best, words[k], responses[k]);
     }
     best
 }
